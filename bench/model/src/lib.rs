@@ -4,5 +4,7 @@
 //! in its words, with growable queues and without cleverness. Every answer number is that document's.
 
 pub mod frame;
+pub mod script;
 pub mod setup;
+pub mod step;
 pub mod units;
