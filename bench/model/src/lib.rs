@@ -7,6 +7,7 @@ pub mod arrival;
 pub mod end;
 pub mod frame;
 pub mod host;
+pub mod listing;
 pub mod pair;
 pub mod script;
 pub mod setup;
