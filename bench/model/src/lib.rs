@@ -9,6 +9,7 @@ pub mod frame;
 pub mod host;
 pub mod listing;
 pub mod pair;
+pub mod random;
 pub mod script;
 pub mod setup;
 pub mod shape;
