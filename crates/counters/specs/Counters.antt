@@ -53,6 +53,10 @@ nextOf s = seq (plus seq-range (s .0) 1)
 abbrev pub beforeOf : Seq → Seq
 beforeOf s = seq (minus seq-range (s .0) 1)
 
+-- the number n after
+abbrev pub afterOf : Seq → ℕ → Seq
+afterOf s n = seq (plus seq-range (s .0) n)
+
 -- equal to next-receive; else a duplicate if (next-receive − number) modulo 4,096 is at most 2,048; else out of order
 abbrev pub orderOf : Seq → Seq → Order
 orderOf next number =

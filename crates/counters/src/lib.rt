@@ -3,7 +3,7 @@
 ghost use mathlib.Core.Path.{_≡_};
 ghost use Prim.Native.Nat.{_-_};
 ghost use Rattle.counters.specs.Wrapped.{plus, minus, within, gate};
-ghost use Rattle.counters.specs.Counters.{header-range, header-half, headers, data-range, data-half, datas, seq-range, seq, nextOf, beforeOf, orderOf, ackAnswer, retrain-range, retrains, counts, added, between, maySend, updateAnswer};
+ghost use Rattle.counters.specs.Counters.{header-range, header-half, headers, data-range, data-half, datas, seq-range, seq, nextOf, beforeOf, afterOf, orderOf, ackAnswer, retrain-range, retrains, counts, added, between, maySend, updateAnswer};
 
 // Header units: one for each packet.
 pub struct Header(pub u8);
@@ -131,6 +131,14 @@ impl Seq {
         ensures { λ r. ⌜ r ≡ beforeOf self ⌝ }
     {
         self.sub(Seq(1))
+    }
+
+    // The number n after this one.
+    pub fn after(self, n: usize) -> Self
+        ensures { λ r. ⌜ r ≡ afterOf self n ⌝ }
+    {
+        let range = Seq::RANGE as usize;
+        self.add(Seq((n % range) as u16))
     }
 
     // What a packet of this number is where self is next-receive.
