@@ -1,2 +1,5 @@
 pub mod Choice
 pub mod Lists
+pub mod Each
+pub mod Number
+pub mod Parts
