@@ -1,0 +1,4 @@
+pub mod Answers
+pub mod Range
+pub mod RoundTrip
+pub mod Rows
