@@ -1,0 +1,5 @@
+pub mod AtHand
+pub mod Form
+pub mod Reader
+pub mod RoundTrip
+pub mod Writer
