@@ -1,0 +1,4 @@
+pub mod Slots
+pub mod Choosing
+pub mod Arrays
+pub mod Changes
