@@ -1,0 +1,43 @@
+-- A run of steps over a pair, in order, with the packets accepted and taken at each end.
+-- Assumes nothing.
+use Prim.Native.Nat.{ℕ}
+use mathlib.Core.Bool.{Bool, _&&_, not}
+use mathlib.Core.List.{List, [], _∷_}
+use lib.Dec.{ltb, eqb}
+use lib.ListN.{getD, set}
+use Rattle.basics.specs.Choice.{if_then_else_}
+use Rattle.counters.specs.Wrapped.{plus}
+use Rattle.script.specs.declared.Step.{Step}
+use Rattle.script.specs.Step.{isSubmit, isTake}
+use Rattle.pairs.specs.declared.Pair.{Pair}
+use Rattle.pairs.specs.Steps.{stepOf}
+use Rattle.runs.specs.declared.Run.{Run}
+use Rattle.runs.specs.declared.Advanced.{Advanced}
+
+abbrev pub run : Pair → List ℕ → List ℕ → Run
+run p accepted taken = record { pair = p; accepted = accepted; taken = taken }
+
+unfoldable pub startOf : Pair → Run
+startOf p = run p (0 ∷ 0 ∷ []) (0 ∷ 0 ∷ [])
+
+-- one more at this end, modulo 2 ^ 32: no script has so many steps
+unfoldable pub grown : List ℕ → ℕ → Bool → List ℕ
+grown counts end one =
+    if not one then counts
+    else if ltb end 2 then set counts end (plus 4294967296 (getD counts end 0) 1)
+    else counts
+
+-- packets accepted by Submit there and packets taken there: those steps that answered 0
+unfoldable pub advanceOf : Run → Step → Advanced
+advanceOf r t =
+    let d = stepOf (r .pair) t in
+    record {
+      run = run (d .pair) (grown (r .accepted) (t .end) (isSubmit (t .step) && eqb (d .answer) 0)) (grown (r .taken) (t .end) (isTake (t .step) && eqb (d .answer) 0));
+      answer = d .answer;
+      detail = d .detail;
+    }
+
+-- the steps in their order
+unfoldable pub runOf : Run → List Step → Run
+runOf r [] = r
+runOf r (t ∷ ts) = runOf (advanceOf r t .run) ts
