@@ -18,7 +18,7 @@ use Rattle.packets.specs.declared.Category.{Category}
 use Rattle.packets.specs.declared.Category.the-variants.{Posted}
 use Rattle.packets.specs.declared.Numbered.{Numbered}
 use Rattle.packets.specs.declared.Numbered.the-variants as Numbered
-use Rattle.packets.specs.Packets.{numberOf, numbered, categoryOf, needOf}
+use Rattle.packets.specs.Packets.{numberOf, numbered, categoryOf, needOf, slotOf}
 use Rattle.store.specs.Store.{held, at, pushed, removed, isOf}
 use Rattle.setup.specs.Setup.{channels}
 use Rattle.receiver.specs.declared.Receiver.{Receiver}
@@ -27,9 +27,6 @@ use Rattle.receiver.specs.Receiver.{receiver, inboxAt, roomAt, withReply, after
 
 abbrev pub got : Receiver → ℕ → ℕ → Got
 got r answer detail = record { receiver = r; answer = answer; detail = detail }
-
-abbrev pub slotOf : ℕ → Category → ℕ
-slotOf channel c = 3 * channel + numberOf c
 
 -- ---- a packet that arrives whole, on this channel
 

@@ -13,10 +13,10 @@ use setup::CHANNELS;
 use store::Packets;
 ghost use mathlib.Core.Path.{_≡_};
 ghost use Prim.Native.Nat.{_<_};
-ghost use Rattle.packets.specs.Packets.{numbered};
+ghost use Rattle.packets.specs.Packets.{numbered, slotOf};
 ghost use Rattle.setup.specs.Setup.{channels, per-end};
 ghost use Rattle.receiver.specs.Receiver.{withReply};
-ghost use Rattle.delivery.specs.Delivery.{got, slotOf, stored, inSequence, arrives, damaged, handedOut, isBefore, taken, takeOf};
+ghost use Rattle.delivery.specs.Delivery.{got, stored, inSequence, arrives, damaged, handedOut, isBefore, taken, takeOf};
 
 // The half after it got a packet or gave one, with answer and detail.
 pub struct Got {

@@ -9,6 +9,7 @@ use borrow.Author.Tests.{lt-ltb, le-ltb, leb-true, eq-eqb, ne-eqb, eqb-false}
 use lib.Dec.{leb, ltb, eqb}
 use lib.ListN.{drop, length, length-set}
 use lib.Seq.{getD-set-same, getD-set-other}
+use Rattle.packets.specs.Packets.{slotOf}
 use Rattle.basics.specs.Choice.{if_then_else_}
 use Rattle.basics.specs.declared.Found.the-variants.{At, Nothing}
 use Rattle.basics.proofs.Branches.{by-test}
@@ -27,7 +28,7 @@ use Rattle.store.proofs.Held.{held-released, len-released, length-released}
 use Rattle.setup.specs.Setup.{channels}
 use Rattle.sender.specs.declared.Sender.{Sender}
 use Rattle.sender.specs.declared.Told.{Told}
-use Rattle.sender.specs.Sender.{slotOf, creditAt, withCredit, withReplay, begun, told}
+use Rattle.sender.specs.Sender.{creditAt, withCredit, withReplay, begun, told}
 use Rattle.sender.proofs.Arrays.{Arrays, arrays-begun}
 use Rattle.sender.proofs.Slots.{slot-below}
 use Rattle.hearing.specs.Hearing.{releases, moved, acknowledged, again, answered, limited, hears}

@@ -3,6 +3,7 @@
 use Prim.Native.Nat.{ℕ, _-_}
 use mathlib.Core.Bool.{Bool, true, false, _&&_}
 use lib.Dec.{leb, ltb, eqb}
+use Rattle.packets.specs.Packets.{slotOf}
 use Rattle.basics.specs.Choice.{if_then_else_}
 use Rattle.basics.specs.declared.Found.{Found}
 use Rattle.basics.specs.declared.Found.the-variants.{At, Nothing}
@@ -18,7 +19,7 @@ use Rattle.store.specs.Store.{released}
 use Rattle.setup.specs.Setup.{channels}
 use Rattle.sender.specs.declared.Sender.{Sender}
 use Rattle.sender.specs.declared.Told.{Told}
-use Rattle.sender.specs.Sender.{replay, sender, slotOf, creditAt, withCredit, withReplay, begun, told}
+use Rattle.sender.specs.Sender.{replay, sender, creditAt, withCredit, withReplay, begun, told}
 
 -- ---- an accepted Ack or Nak number
 

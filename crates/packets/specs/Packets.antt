@@ -1,6 +1,6 @@
 -- Packets: their kinds, what is refused of them (12, 13, 14) and the units that they cost.
 -- Document 01, "Packets and their units", in its order. Assumes nothing.
-use Prim.Native.Nat.{ℕ, _+_, _/_}
+use Prim.Native.Nat.{ℕ, _+_, _*_, _/_}
 use mathlib.Core.Bool.{Bool, true, false, _&&_, _||_, not}
 use mathlib.Core.List.{List, [], _∷_}
 use lib.Dec.{leb, ltb, eqb}
@@ -49,6 +49,10 @@ abbrev pub numberOf : Category → ℕ
 numberOf Posted = 0
 numberOf NonPosted = 1
 numberOf Completion = 2
+
+-- where a category of a channel stands among those of all channels
+abbrev pub slotOf : ℕ → Category → ℕ
+slotOf channel c = 3 * channel + numberOf c
 
 -- the category of a number; none for one over 2
 abbrev pub numbered : ℕ → Numbered

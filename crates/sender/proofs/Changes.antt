@@ -18,17 +18,17 @@ use Rattle.basics.proofs.Places.{getD-same}
 use Rattle.counters.specs.Counters.{nextOf}
 use Rattle.credits.specs.Credits.{none, creditFor, advertised, spent}
 use Rattle.packets.specs.declared.Packet.{Packet}
-use Rattle.packets.specs.Packets.{categoryOf, needOf}
+use Rattle.packets.specs.Packets.{categoryOf, needOf, slotOf}
 use Rattle.store.specs.Store.{capacity, empty, held, pushed, removed}
 use Rattle.store.proofs.Held.{held-pushed, len-pushed, held-removed, len-removed}
 use Rattle.setup.specs.declared.Setup.{Setup}
 use Rattle.setup.specs.Setup.{channels, per-end, noUnits}
 use Rattle.sender.specs.declared.Replay.{Replay}
 use Rattle.sender.specs.declared.Sender.{Sender}
-use Rattle.sender.specs.Sender.{creditOf, startOf, slotOf, queueAt, creditAt, withReplay, submitted, begun, told, timerOf}
+use Rattle.sender.specs.Sender.{creditOf, startOf, queueAt, creditAt, withReplay, submitted, begun, told, timerOf}
 use Rattle.sender.specs.Sources.{placeAfter, replayed, newPacket, sentNew}
 use Rattle.sender.proofs.Arrays.{Arrays}
-use Rattle.sender.proofs.Slots.{category-number}
+use Rattle.packets.proofs.Numbers.{number-below}
 
 -- ---- the start: nothing waits, and each credit is what the other end's setup gives
 
@@ -102,7 +102,7 @@ module _ (s : Sender) (a : Arrays s) (channel : ℕ) (here : channel < channels)
     unfolding sentNew
     credit-sent =
         simp (sentNew, lt-ltb channel channels here)
-        (getD-set-same (s .credits) (slotOf channel (categoryOf it)) _ (creditFor none) (omega (arith, a .credits-are, category-number (categoryOf it))))
+        (getD-set-same (s .credits) (slotOf channel (categoryOf it)) _ (creditFor none) (omega (arith, a .credits-are, number-below (categoryOf it))))
 
     -- it enters the replay buffer
     pub buffer-sent : sentNew s channel place .buffer ≡ pushed (s .buffer) it

@@ -18,7 +18,7 @@ use Rattle.basics.specs.declared.Found.the-variants.{At, Nothing}
 use Rattle.packets.specs.declared.Packet.{Packet}
 use Rattle.packets.specs.declared.Category.{Category}
 use Rattle.packets.specs.declared.Category.the-variants.{Posted, NonPosted, Completion}
-use Rattle.packets.specs.Packets.{categoryOf, needOf}
+use Rattle.packets.specs.Packets.{categoryOf, needOf, slotOf}
 use Rattle.credits.specs.Credits.{suffices}
 use Rattle.store.specs.Store.{held, noPacket, isOf}
 use Rattle.choice.specs.Choice.{creditOf, noneOf, eligible}
@@ -27,7 +27,7 @@ use Rattle.setup.specs.Setup.{channels}
 use Rattle.sender.specs.declared.Sender.{Sender}
 use Rattle.sender.specs.declared.New.{New}
 use Rattle.sender.specs.declared.New.the-variants as New
-use Rattle.sender.specs.Sender.{slotOf, queueAt, creditAt}
+use Rattle.sender.specs.Sender.{queueAt, creditAt}
 use Rattle.sender.specs.Sources.{bufferBound, creditsOf, chosenIn, onFound, highest, newOf, newPacket}
 
 -- ---- a channel and a place that were found are one channel and one place

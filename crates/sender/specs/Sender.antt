@@ -44,10 +44,6 @@ startOf link =
 
 -- ---- its parts: a channel's queue, the credit of a channel and category
 
--- where the credit of a channel and category stands
-abbrev pub slotOf : ℕ → Category → ℕ
-slotOf channel c = 3 * channel + numberOf c
-
 abbrev pub queueAt : Sender → ℕ → Packets
 queueAt s channel = getD (s .queues) channel empty
 

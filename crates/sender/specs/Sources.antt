@@ -12,7 +12,7 @@ use Rattle.credits.specs.declared.Credit.{Credit}
 use Rattle.credits.specs.Credits.{spent}
 use Rattle.packets.specs.declared.Packet.{Packet}
 use Rattle.packets.specs.declared.Category.the-variants.{Posted, NonPosted, Completion}
-use Rattle.packets.specs.Packets.{categoryOf, needOf}
+use Rattle.packets.specs.Packets.{categoryOf, needOf, slotOf}
 use Rattle.frames.specs.declared.Frame.{Frame}
 use Rattle.frames.specs.declared.Frame.the-variants as Frame
 use Rattle.store.specs.Store.{held, at, pushed, removed}
@@ -21,7 +21,7 @@ use Rattle.setup.specs.Setup.{channels}
 use Rattle.sender.specs.declared.Sender.{Sender}
 use Rattle.sender.specs.declared.New.{New}
 use Rattle.sender.specs.declared.New.the-variants as New
-use Rattle.sender.specs.Sender.{replay, sender, withReplay, slotOf, queueAt, creditAt}
+use Rattle.sender.specs.Sender.{replay, sender, withReplay, queueAt, creditAt}
 
 -- ---- the next replay packet
 

@@ -17,9 +17,10 @@ ghost use mathlib.Core.Path.{_≡_};
 ghost use Prim.Native.Nat.{_<_};
 ghost use mathlib.Core.List.{map};
 ghost use lib.ListN.{length, drop};
+ghost use Rattle.packets.specs.Packets.{slotOf};
 ghost use Rattle.store.specs.Store.{held, ofCategory};
 ghost use Rattle.setup.specs.Setup.{channels, per-end};
-ghost use Rattle.sender.specs.Sender.{creditOf, startOf, slotOf, queueAt, creditAt, withQueue, withCredit, withReplay, submitted, begun, timerOf};
+ghost use Rattle.sender.specs.Sender.{creditOf, startOf, queueAt, creditAt, withQueue, withCredit, withReplay, submitted, begun, timerOf};
 ghost use Rattle.sender.specs.Sources.{replayFrame, placeAfter, replayed, creditsOf, chosenIn, newOf, newFrame, sentNew};
 
 // The place in the replay buffer of a running replay's next packet; how many starts are counted; how often the link was trained again.

@@ -17,7 +17,7 @@ use Rattle.credits.specs.Credits.{freeOf}
 use Rattle.packets.specs.declared.Packet.{Packet}
 use Rattle.packets.specs.declared.Category.{Category}
 use Rattle.packets.specs.declared.Category.the-variants.{Posted, NonPosted, Completion}
-use Rattle.packets.specs.Packets.{numberOf, packetAnswer, dataTogether}
+use Rattle.packets.specs.Packets.{numberOf, packetAnswer, dataTogether, slotOf}
 use Rattle.frames.specs.Frames.{numberInRange}
 use Rattle.store.specs.declared.Packets.{Packets}
 use Rattle.store.specs.Store.{capacity, held, ofCategory}
@@ -25,7 +25,7 @@ use Rattle.setup.specs.declared.Setup.{Setup}
 use Rattle.setup.specs.declared.Units.{Units}
 use Rattle.setup.specs.Setup.{channels, per-end, inRange, channelOf, unitsAt}
 use Rattle.sender.specs.declared.Sender.{Sender}
-use Rattle.sender.specs.Sender.{slotOf, queueAt, creditAt}
+use Rattle.sender.specs.Sender.{queueAt, creditAt}
 use Rattle.sender.specs.Sources.{bufferBound}
 use Rattle.receiver.specs.declared.Receiver.{Receiver}
 use Rattle.receiver.specs.Receiver.{inboxAt, roomAt}

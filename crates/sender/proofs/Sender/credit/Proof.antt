@@ -4,8 +4,8 @@ use borrow.Author.Needs.{needs}
 use native.Mathlib.Omega.{arith}
 use mathlib.Core.Path.{_≡_}
 use lib.ListN.{length, length-map, List·getD-eq-default}
+use Rattle.packets.specs.Packets.{slotOf}
 use Rattle.credits.specs.Credits.{none, creditFor}
-use Rattle.sender.specs.Sender.{slotOf}
 use Rattle.sender.proofs.Sender.credit.Statement.{statement}
 use Rattle.sender.proofs.Sender.credit.Tie as tie
 

@@ -5,7 +5,7 @@ use native.Mathlib.Omega.{arith}
 use mathlib.Core.Path.{_≡_}
 use lib.ListN.{length, length-map}
 use lib.Seq.{set-out}
-use Rattle.sender.specs.Sender.{slotOf}
+use Rattle.packets.specs.Packets.{slotOf}
 use Rattle.sender.proofs.Sender.with_credit.Statement.{statement}
 use Rattle.sender.proofs.Sender.with_credit.Tie as tie
 
