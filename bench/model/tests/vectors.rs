@@ -1,11 +1,11 @@
-//! The scripts of `tests/vectors/base` give their listings.
+//! The scripts of `crates/vectors_test/data` give their listings.
 
 use std::fs;
 use std::path::Path;
 
 #[test]
 fn every_script_gives_its_listing() {
-    let folder = Path::new(env!("CARGO_MANIFEST_DIR")).join("../../tests/vectors/base");
+    let folder = Path::new(env!("CARGO_MANIFEST_DIR")).join("../../crates/vectors_test/data");
     let mut passed = 0;
     for entry in fs::read_dir(folder).expect("the folder of vectors") {
         let path = entry.expect("a file").path();

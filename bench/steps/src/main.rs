@@ -1,0 +1,72 @@
+// Times the proved link against the plain model: both read and run the same scripts of three profiles, in turn, and
+// must take as many packets. Prints nanoseconds for a step, the sum over the scripts of the least of a few runs each,
+// and the ratio.
+use model::random::{self, Profile};
+use model::{listing, script};
+use std::hint::black_box;
+use std::time::Instant;
+
+#[link(name = "runs_export", kind = "static")]
+extern "C" {
+    fn script_taken(b: *const u8, b_len: usize, l: *mut u32, l_len: usize) -> u32;
+}
+
+const PROFILES: [Profile; 3] = [Profile::Mixed, Profile::Lossy, Profile::Wrapping];
+const FIRST_SEED: u64 = 1;
+const RUNS: usize = 5;
+
+fn steps_in(bytes: &[u8]) -> usize {
+    (bytes.len() - script::SHORTEST) / script::RECORD_BYTES
+}
+
+fn proved(bytes: &[u8], list: &mut [u32]) -> u32 {
+    unsafe { script_taken(bytes.as_ptr(), bytes.len(), list.as_mut_ptr(), list.len()) }
+}
+
+fn plain(bytes: &[u8]) -> u32 {
+    let (setup, steps) = script::read(bytes).expect("a script in form");
+    let run = listing::run(&setup, &steps).expect("a setup in range");
+    run.taken[0] + run.taken[1]
+}
+
+fn timed<F: FnMut() -> u32>(mut f: F) -> (u128, u32) {
+    let start = Instant::now();
+    let taken = f();
+    (start.elapsed().as_nanos(), taken)
+}
+
+fn measure(profile: Profile, scripts: u64) {
+    let last = FIRST_SEED + scripts - 1;
+    let (mut ours, mut model, mut steps, mut taken) = (0, 0, 0, 0);
+    for seed in FIRST_SEED..=last {
+        let bytes = random::script(profile, seed);
+        let count = steps_in(&bytes);
+        let mut list = vec![0u32; 6 * count];
+        let mut least = [u128::MAX; 2];
+        for _ in 0..RUNS {
+            let (a, took) = timed(|| proved(black_box(&bytes), &mut list));
+            let (b, expected) = timed(|| plain(black_box(&bytes)));
+            assert_eq!(took, expected, "packets taken, {} script, seed {seed}", profile.name());
+            least = [least[0].min(a), least[1].min(b)];
+        }
+        taken += u64::from(plain(&bytes));
+        ours += least[0];
+        model += least[1];
+        steps += count;
+    }
+    let each = |time: u128| time as f64 / steps as f64;
+    println!(
+        "{}, seeds {FIRST_SEED} to {last}: {steps} steps, {taken} packets taken by both; proved {:.1} ns a step, plain {:.1}: {:.2} times",
+        profile.name(),
+        each(ours),
+        each(model),
+        ours as f64 / model as f64
+    );
+}
+
+fn main() {
+    let scripts = std::env::args().nth(1).map_or(20, |n| n.parse().expect("a number of scripts"));
+    for profile in PROFILES {
+        measure(profile, scripts);
+    }
+}

@@ -1,0 +1,27 @@
+-- How many packets are taken in the run of a script.
+-- Assumes nothing.
+use Prim.Native.Nat.{ℕ, _/_}
+use mathlib.Core.List.{List}
+use lib.Dec.{eqb}
+use lib.ListN.{length, getD}
+use Rattle.basics.specs.Choice.{if_then_else_}
+use Rattle.counters.specs.Wrapped.{plus}
+use Rattle.setup.specs.declared.Setup.{Setup}
+use Rattle.script.specs.Script.{listAfter, readScript, stepsIn}
+use Rattle.pairs.specs.Pairs as pairs
+use Rattle.runs.specs.declared.Run.{Run}
+use Rattle.runs.specs.Runs.{runOf, startOf}
+
+-- at both ends, modulo 2 ^ 32: no script has so many steps
+unfoldable pub takenBy : Run → ℕ
+takenBy r = plus 4294967296 (getD (r .taken) 0 0) (getD (r .taken) 1 0)
+
+-- by the steps of a list of numbers, six for each, on a fresh pair
+unfoldable pub takenAfter : Setup → List ℕ → ℕ
+takenAfter link l = takenBy (runOf (startOf (pairs.startOf link .pair)) (stepsIn l (length l / 6)))
+
+-- none where the script is refused
+unfoldable pub takenIn : List ℕ → List ℕ → ℕ
+takenIn b l =
+    if eqb (readScript b (length l) .answer) 0 then takenAfter (readScript b (length l) .setup) (listAfter b l)
+    else 0
