@@ -6,7 +6,6 @@ use listing::LONGEST;
 use pairs::Pair;
 use runs::Run;
 use script::MOST_STEPS;
-use script::Step;
 use setup::Setup;
 ghost use Prim.Native.Nat.{_+_, _≤_};
 
@@ -33,29 +32,6 @@ fn made_room(out: &[u8], at: usize) -> usize
     0
 }
 
-// Step i of a list of numbers; a step out of form where the list ends before it.
-fn step_at(l: &[u32], i: usize) -> Step {
-    let at = 6 * (i % MOST_STEPS);
-    if l.len() < at + 6 {
-        return Step {
-            step: 0,
-            end: 0,
-            class: 0,
-            kind: 0,
-            length: 0,
-            ident: 0,
-        };
-    }
-    Step {
-        step: l[at],
-        end: l[at + 1],
-        class: l[at + 2],
-        kind: l[at + 3],
-        length: l[at + 4],
-        ident: l[at + 5],
-    }
-}
-
 // Runs the steps and writes a line for each.
 fn write_steps(start: Run, l: &[u32], count: usize) -> Run {
     let mut out = [0u8; OUT];
@@ -63,7 +39,7 @@ fn write_steps(start: Run, l: &[u32], count: usize) -> Run {
     let mut run = start;
     let mut i = 0;
     while i < count {
-        let a = run.advance(step_at(l, i));
+        let a = run.advance(runs::step_from(l, i));
         let k = made_room(&out, at);
         let n = listing::step_line(
             &mut out[k..],

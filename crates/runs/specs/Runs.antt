@@ -1,18 +1,25 @@
 -- A run of steps over a pair, in order, with the packets accepted and taken at each end.
 -- Assumes nothing.
-use Prim.Native.Nat.{ℕ}
+use Prim.Native.Nat.{ℕ, _*_, _/_}
 use mathlib.Core.Bool.{Bool, _&&_, not}
 use mathlib.Core.List.{List, [], _∷_}
 use lib.Dec.{ltb, eqb}
-use lib.ListN.{getD, set}
+use lib.ListN.{length, getD, set}
 use Rattle.basics.specs.Choice.{if_then_else_}
+use Rattle.basics.specs.Parts.{part}
 use Rattle.counters.specs.Wrapped.{plus}
 use Rattle.script.specs.declared.Step.{Step}
-use Rattle.script.specs.Step.{isSubmit, isTake}
+use Rattle.script.specs.Step.{isSubmit, isTake, stepOf}
 use Rattle.pairs.specs.declared.Pair.{Pair}
-use Rattle.pairs.specs.Steps.{stepOf}
+use Rattle.pairs.specs.Steps as Pairs
 use Rattle.runs.specs.declared.Run.{Run}
 use Rattle.runs.specs.declared.Advanced.{Advanced}
+
+-- step i of a list of numbers, six for each; a step out of form where the list ends before it
+unfoldable pub stepFrom : List ℕ → ℕ → Step
+stepFrom l i =
+    if ltb i (length l / 6) then stepOf (part l (6 * i) 6)
+    else record { step = 0; end = 0; class = 0; kind = 0; length = 0; ident = 0 }
 
 abbrev pub run : Pair → List ℕ → List ℕ → Run
 run p accepted taken = record { pair = p; accepted = accepted; taken = taken }
@@ -30,7 +37,7 @@ grown counts end one =
 -- packets accepted by Submit there and packets taken there: those steps that answered 0
 unfoldable pub advanceOf : Run → Step → Advanced
 advanceOf r t =
-    let d = stepOf (r .pair) t in
+    let d = Pairs.stepOf (r .pair) t in
     record {
       run = run (d .pair) (grown (r .accepted) (t .end) (isSubmit (t .step) && eqb (d .answer) 0)) (grown (r .taken) (t .end) (isTake (t .step) && eqb (d .answer) 0));
       answer = d .answer;

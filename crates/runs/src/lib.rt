@@ -8,7 +8,7 @@ ghost use Prim.Native.Nat.{_/_};
 ghost use lib.ListN.{length};
 ghost use Rattle.script.specs.Step.{stepOf};
 ghost use Rattle.script.specs.Script.{stepsIn};
-ghost use Rattle.runs.specs.Runs.{startOf, grown, advanceOf, runOf};
+ghost use Rattle.runs.specs.Runs.{stepFrom, startOf, grown, advanceOf, runOf};
 
 // By end: packets accepted by Submit there, packets taken there.
 pub struct Run {
@@ -51,6 +51,24 @@ fn step_in(l: &[u32]) -> Step
         kind: l[3],
         length: l[4],
         ident: l[5],
+    }
+}
+
+// Step i of a list of numbers, six for each; a step out of form where the list ends before it.
+pub fn step_from(l: &[u32], i: usize) -> Step
+    ensures { λ r. ⌜ r ≡ stepFrom (now (l .entry)) i ⌝ }
+{
+    if i < l.len() / 6 {
+        let at = 6 * i;
+        return step_in(&l[at..at + 6]);
+    }
+    Step {
+        step: 0,
+        end: 0,
+        class: 0,
+        kind: 0,
+        length: 0,
+        ident: 0,
     }
 }
 

@@ -6,7 +6,6 @@ use listing::LONGEST;
 use pairs::Pair;
 use runs::Run;
 use script::MOST_STEPS;
-use script::Step;
 use setup::Setup;
 
 // The numbers of the longest script's steps, six for each.
@@ -129,36 +128,13 @@ fn behind_refused(stored: &[u8], answer: u8, place: usize) -> Place {
     behind_start(first_line(), stored, &line, n)
 }
 
-// Step i of a list of numbers; a step out of form where the list ends before it.
-fn step_at(l: &[u32], i: usize) -> Step {
-    let at = 6 * (i % MOST_STEPS);
-    if l.len() < at + 6 {
-        return Step {
-            step: 0,
-            end: 0,
-            class: 0,
-            kind: 0,
-            length: 0,
-            ident: 0,
-        };
-    }
-    Step {
-        step: l[at],
-        end: l[at + 1],
-        class: l[at + 2],
-        kind: l[at + 3],
-        length: l[at + 4],
-        ident: l[at + 5],
-    }
-}
-
 // Runs the steps and holds a line for each, and the two end lines, to the stored listing.
 fn behind_run(start: Run, l: &[u32], count: usize, stored: &[u8]) -> Place {
     let mut p = behind_header(stored);
     let mut run = start;
     let mut i = 0;
     while i < count {
-        let a = run.advance(step_at(l, i));
+        let a = run.advance(runs::step_from(l, i));
         p = behind_step(
             p,
             stored,
