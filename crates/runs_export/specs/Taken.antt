@@ -1,6 +1,6 @@
 -- How many packets are taken in the run of a script.
 -- Assumes nothing.
-use Prim.Native.Nat.{ℕ, _/_}
+use Prim.Native.Nat.{ℕ}
 use mathlib.Core.List.{List}
 use lib.Dec.{eqb}
 use lib.ListN.{length, getD}
@@ -16,12 +16,12 @@ use Rattle.runs.specs.Runs.{runOf, startOf}
 unfoldable pub takenBy : Run → ℕ
 takenBy r = plus 4294967296 (getD (r .taken) 0 0) (getD (r .taken) 1 0)
 
--- by the steps of a list of numbers, six for each, on a fresh pair
-unfoldable pub takenAfter : Setup → List ℕ → ℕ
-takenAfter link l = takenBy (runOf (startOf (pairs.startOf link .pair)) (stepsIn l (length l / 6)))
+-- by the first steps of a list of numbers, six for each, on a fresh pair
+unfoldable pub takenAfter : Setup → List ℕ → ℕ → ℕ
+takenAfter link l count = takenBy (runOf (startOf (pairs.startOf link .pair)) (stepsIn l count))
 
--- none where the script is refused
+-- by the script's steps alone; none where the script is refused
 unfoldable pub takenIn : List ℕ → List ℕ → ℕ
 takenIn b l =
-    if eqb (readScript b (length l) .answer) 0 then takenAfter (readScript b (length l) .setup) (listAfter b l)
-    else 0
+    let r = readScript b (length l) in
+    if eqb (r .answer) 0 then takenAfter (r .setup) (listAfter b l) (r .count) else 0
