@@ -123,7 +123,7 @@ impl Pair {
 
     /// The quiet round. Each of its steps and what it answered goes to `record`.
     pub fn quiet_round(&mut self, mut record: impl FnMut(&Step, &Outcome)) {
-        let channels = self.ends[0].setup.channels;
+        let channels = self.ends.each_ref().map(|end| end.setup.channels);
         let mut act = |step: Step| {
             let outcome = self.act(&step);
             record(&step, &outcome);
@@ -137,7 +137,7 @@ impl Pair {
                 act(step);
             }
         }
-        for end in 0..2 {
+        for (end, channels) in (0..).zip(channels) {
             for channel in 0..channels {
                 for category in 0..CATEGORIES as u32 {
                     while act(Step::take(end, channel, category)) == 0 {}

@@ -73,16 +73,11 @@ fn queued(channel: &Channel, category: usize) -> usize {
 }
 
 impl Pair {
-    /// Whether both ends and both lines are in shape, and the ends are the two ends of one setup.
+    /// Whether both ends and both lines are in shape. That the ends are the two ends of one setup is not asked.
     pub fn in_shape(&self) -> bool {
-        let channels = self.ends[0].setup.channels;
         self.ends.iter().all(End::in_shape)
-            && self.ends[0].side == 0
-            && self.ends[1].side == 1
-            && self.ends[0].setup == self.ends[1].setup
-            && self
-                .lines
-                .iter()
-                .all(|line| line.len() <= LINE && line.iter().all(|frame| frame.in_range(channels)))
+            && self.ends.iter().zip(&self.lines).all(|(end, line)| {
+                line.len() <= LINE && line.iter().all(|frame| frame.in_range(end.setup.channels))
+            })
     }
 }

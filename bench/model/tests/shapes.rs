@@ -4,7 +4,7 @@ mod common;
 
 use std::collections::VecDeque;
 
-use common::{act, act_all, completion, pair, read, write};
+use common::{act, act_all, completion, pair, read, spread, write};
 use model::end::{End, Sent};
 use model::frame::{Frame, Message};
 use model::pair::Pair;
@@ -81,6 +81,19 @@ fn lines() {
         pair.lines[1].push_back(bad);
         assert_eq!(act(&mut pair, Step::refresh(0)), (10, 0));
     }
+}
+
+#[test]
+fn ends_of_different_setups() {
+    let mut mixed = pair(2, 4, 8);
+    mixed.ends[1] = End::start(&spread(1, 2, 3), 0);
+    assert!(mixed.in_shape());
+    // Each line's frames are held to the channels of the end that it leads to.
+    let update = Frame::Link(Message::Update { channel: 1, category: 0, limit: Units::new(4, 8) });
+    mixed.lines[0].push_back(update);
+    assert_eq!(act(&mut mixed, Step::refresh(0)), (0, 0));
+    mixed.lines[1].push_back(update);
+    assert_eq!(act(&mut mixed, Step::refresh(0)), (10, 0));
 }
 
 #[test]
