@@ -1,6 +1,11 @@
 // Steps handed to the pair: out of form, at no end, on a full line, on a pair out of shape. A line for each: answer and detail.
 // Its expected output was worked out by hand from document 01. Assumes nothing.
+use counters::Seq;
+use frames::Frame;
+use frames::Message;
 use libc::STDOUT_FILENO;
+use line::Line;
+use line::Slot;
 use pairs::Pair;
 use script::Step;
 use setup::SLOTS;
@@ -110,12 +115,40 @@ fn full(p: Pair) -> Pair {
     show(show(e, plain(5, 1)), plain(4, 1))
 }
 
+// A line of so many Acks of one number.
+fn acks(number: u16, len: usize) -> Line {
+    let ack = Slot {
+        frame: Frame::Message(Message::Ack(Seq(number))),
+    };
+    Line {
+        slots: [ack; 16],
+        len,
+    }
+}
+
+// Timer at a pair with these lines.
+fn timer_with(p: Pair, first: Line, second: Line) {
+    let mut q = p;
+    let lines = [first, second];
+    q.lines = lines;
+    show(q, plain(7, 0));
+}
+
+// 10 for a line over its bound, and for a frame that 27 refuses.
+fn bad_lines(p: Pair) {
+    say(b"Timer with 16 Acks on each line, with 17 on one, with an Ack of 4,096 on the other\n");
+    timer_with(p, acks(0, 16), acks(0, 16));
+    timer_with(p, acks(0, 17), acks(0, 16));
+    timer_with(p, acks(0, 16), acks(4096, 1));
+}
+
 fn main() {
     let started = Pair::start(wide_setup());
     say(b"start\n");
     tell(started.answer, 0);
     let p = started.pair;
     full(out_of_form(p));
+    bad_lines(p);
     let refused = Pair::start(Setup::blank());
     say(b"start from a bad setup, Timer at the pair of the blank setup\n");
     tell(refused.answer, 0);
