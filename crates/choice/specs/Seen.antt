@@ -29,6 +29,6 @@ seeing s Posted = seen true (s .«non_posted») (s .completion)
 seeing s NonPosted = seen (s .posted) true (s .completion)
 seeing s Completion = seen (s .posted) (s .«non_posted») true
 
--- a packet of category c may go after these
+-- a packet of category c may go after these; for a posted one `hasSeen` already says that no posted one was passed
 abbrev pub mayGo : Seen → Category → Credit → Packet → Bool
 mayGo s c credit p = not (hasSeen s c) && suffices credit (needOf p) && not (s .posted)

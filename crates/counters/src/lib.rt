@@ -1,5 +1,5 @@
 // The counters of the link: header units, data units, sequence numbers and the retrain count. All wrap.
-// Each keeps its modulus and half range, which stand nowhere else. Assumes nothing: every function takes all values.
+// Each keeps its modulus and half range, which stand nowhere else in the code. Assumes nothing: every function takes all values.
 ghost use mathlib.Core.Path.{_≡_};
 ghost use Prim.Native.Nat.{_-_};
 ghost use Rattle.counters.specs.Wrapped.{plus, minus, within, gate};

@@ -18,7 +18,7 @@ use Rattle.packets.specs.declared.Category.{Category}
 use Rattle.packets.specs.declared.Category.the-variants.{Posted}
 use Rattle.packets.specs.declared.Numbered.{Numbered}
 use Rattle.packets.specs.declared.Numbered.the-variants as Numbered
-use Rattle.packets.specs.Packets.{numberOf, numbered, categoryOf, needOf, slotOf}
+use Rattle.packets.specs.Packets.{numbered, categoryOf, needOf, slotOf}
 use Rattle.store.specs.Store.{held, at, pushed, removed, isOf}
 use Rattle.setup.specs.Setup.{channels}
 use Rattle.receiver.specs.declared.Receiver.{Receiver}
@@ -38,7 +38,7 @@ stored r channel p =
     (set (r .rooms) (slotOf channel (categoryOf p)) (received (roomAt r (slotOf channel (categoryOf p))) (needOf p)))
     (afterAccepted (r .reply))
 
--- 26: over the free header or data room, as on a channel that there is not
+-- 26: over the free header or data room; also where there is no such channel
 unfoldable pub inSequence : Receiver → ℕ → Packet → Got
 inSequence r channel p =
     if leb channels channel then got r 26 0
@@ -68,12 +68,13 @@ handedOut r channel c place =
     (set (r .rooms) (slotOf channel c) (givenBack (roomAt r (slotOf channel c)) (needOf (at (inboxAt r channel) place))))
     (r .reply)
 
--- a posted packet stands before this place
+-- what was found stands before this place
 abbrev pub isBefore : Found → ℕ → Bool
 isBefore (At i) place = ltb i place
 isBefore Nothing place = false
 
--- 21: none waiting; 22: not posted, and a posted packet that arrived earlier waits on that channel
+-- 21: none waiting; 22: not posted, and a posted packet that arrived earlier waits on that channel;
+-- for a posted one the first posted is itself, so 22 is never given
 unfoldable pub takenAt : Receiver → ℕ → Category → Found → Got
 takenAt r channel c Nothing = got r 21 0
 takenAt r channel c (At place) =

@@ -55,7 +55,7 @@ byReceiver e g = stepped (end (e .setup) (e .sender) (g .receiver)) (g .answer) 
 abbrev pub channelFor : End → Packet → ℕ
 channelFor e p = channelOf (e .setup) (p .class)
 
--- 15: needs more data units than the other end's setup gives
+-- 15: needs more data units than the other end's setup gives (1 is the other end)
 abbrev pub tooMuch : End → Packet → ℕ
 tooMuch e p = if ltb (unitsAt (e .setup) 1 (channelFor e p) (numberOf (categoryOf p)) .payload) (dataUnits p) then 15 else 0
 
@@ -82,7 +82,7 @@ heard e (Frame.Message m) = bySender e (hears (e .sender) m)
 unfoldable pub arriveOf : End → Frame → Stepped
 arriveOf e f = if eqb (frameAnswer (e .setup .n) f) 0 then heard e f else stepped e 27 0
 
--- ---- a frame that arrives damaged: a packet may make a Nak owed, a link message is dropped
+-- ---- a frame that arrives damaged: both are dropped; a packet makes a Nak owed if the flag is clear
 
 unfoldable pub damageOf : End → Frame → Stepped
 damageOf e (Frame.Packet number p) = stepped (end (e .setup) (e .sender) (damaged (e .receiver))) 0 4

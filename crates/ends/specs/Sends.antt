@@ -39,7 +39,8 @@ abbrev pub onNew : New → (ℕ → ℕ → Sent) → Sent → Sent
 onNew (New.At channel place) found none = found channel place
 onNew New.Nothing found none = none
 
--- an owed Nak; an owed Ack; a marked credit update; the next replay packet if a replay runs; a new packet if none runs; 18: no frame applies
+-- an owed Nak; an owed Ack; a marked credit update; the next replay packet if a replay runs;
+-- a new packet if none runs and the replay buffer has room; 18: no frame applies
 unfoldable pub sendOf : End → Sent
 sendOf e =
     onFrame (nakOf (e .receiver .reply)) (λ f. fromReceiver e (cleared (e .receiver)) f 1)

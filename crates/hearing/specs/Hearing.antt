@@ -46,7 +46,7 @@ again s = if eqb (s .buffer .len) 0 then s else withReplay s (begun (s .replay))
 
 -- ---- an update: both limits are replaced
 
--- 25: not accepted, as on a channel that there is not
+-- 25: not accepted; also where there is no such channel
 unfoldable pub limited : Sender → ℕ → Category → Counts → Told
 limited s channel c limits =
     let now = creditAt s (slotOf channel c) in

@@ -17,7 +17,7 @@ pub struct Line {
     pub len: usize,
 }
 
-// The oldest frame, if there is one.
+// A frame, or none: the oldest on a line, or what a source of Send has for it.
 pub enum Front {
     Frame(Frame),
     Nothing,

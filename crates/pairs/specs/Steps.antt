@@ -24,7 +24,8 @@ use Rattle.pairs.specs.Pairs.{done, endAt, lineAt, byEnd, sendAt, reachA
 abbrev pub packetOf : Step → Packet
 packetOf t = record { kind = t .kind; class = t .class; length = t .length; ident = t .ident }
 
--- 1 Submit, 2 Send, 3 Arrive, 4 Damage, 5 Lose, 6 Take, 7 Timer, 8 Refresh
+-- 1 Submit, 2 Send, 3 Arrive, 4 Damage, 5 Lose, 6 Take, 7 Timer, 8 Refresh;
+-- for Take, class is the channel and kind the category; a step in form has no other number
 unfoldable pub act : Pair → Step → Done
 act p t =
     if eqb (t .step) 1 then byEnd p (t .end) (submitOf (endAt p (t .end)) (packetOf t))

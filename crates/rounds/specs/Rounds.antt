@@ -46,7 +46,7 @@ unfoldable pub takesOn : Pair → ℕ → ℕ → Pair
 takesOn p end channel =
     takeUntil mostTakes (takeUntil mostTakes (takeUntil mostTakes p end channel 0) end channel 1) end channel 2
 
--- for each channel from 0 up to c; one that is not in use refuses its Takes with 20
+-- for each channel from 0 up, below c; one that is not in use refuses its Takes with 20
 unfoldable pub takesBelow : ℕ → Pair → ℕ → Pair
 takesBelow zero p end = p
 takesBelow (suc c) p end = takesOn (takesBelow c p end) end c

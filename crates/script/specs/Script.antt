@@ -99,7 +99,7 @@ stepsIn l count = map stepOf (cut 6 count l)
 abbrev pub rejected : ℕ → ℕ → Written
 rejected answer place = record { answer = answer; place = place; length = 0 }
 
--- too many steps are also more than the list has
+-- 4 also where the list has fewer than six numbers a step
 unfoldable pub writeScript : Setup → List ℕ → ℕ → ℕ → Written
 writeScript s l count space =
     if ltb mostSteps count then rejected 4 0

@@ -15,7 +15,6 @@ use Rattle.credits.specs.declared.Credit.{Credit}
 use Rattle.credits.specs.Credits.{creditFor, none, advertised}
 use Rattle.packets.specs.declared.Packet.{Packet}
 use Rattle.packets.specs.declared.Category.{Category}
-use Rattle.packets.specs.Packets.{numberOf}
 use Rattle.store.specs.declared.Packets.{Packets}
 use Rattle.store.specs.Store.{empty, pushed}
 use Rattle.setup.specs.declared.Setup.{Setup}

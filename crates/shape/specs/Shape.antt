@@ -1,5 +1,6 @@
 -- The shape of an end's state: a step on a state that is out of shape answers 10. Document 01's list, in its order.
--- The rules go over all channels, also over those that are not in use. Assumes nothing.
+-- The rules go over all channels, also over those that are not in use. Each heading quotes the fault; the definition under it
+-- says that it is not there. Lines stand in pairs/Steps. Assumes nothing.
 use Prim.Native.Nat.{ℕ, _+_, _*_}
 use mathlib.Core.Bool.{Bool, true, _&&_, _||_, not}
 use mathlib.Core.List.{List}
@@ -37,10 +38,11 @@ ofEach ok = ok Posted && (ok NonPosted && ok Completion)
 
 -- ---- a queue, buffer or line is over its bound
 
--- at most 8 of each category
+-- at most 8 of each category, and no length past the 48 places
 unfoldable pub queueBound : Packets → Bool
 queueBound q = leb (q .len) capacity && ofEach (λ c. leb (length (ofCategory c (held q))) 8)
 
+-- its bound in units is the last rule; here its 48 places
 abbrev pub inboxBound : Packets → Bool
 inboxBound q = leb (q .len) capacity
 
@@ -125,6 +127,7 @@ marksInUse n r = each per-end (λ slot. markInUse n slot (roomAt r slot))
 
 -- ---- free room (allocated − received) and the units waiting don't add up to the setup's units
 
+-- each waiting packet is one header unit
 unfoldable pub addsUp : Room → List Packet → Units → Bool
 addsUp r waiting u = eqb (freeOf r .h .0 + length waiting) (u .header) && eqb (freeOf r .d .0 + dataTogether waiting) (u .payload)
 
