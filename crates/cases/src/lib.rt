@@ -1,6 +1,7 @@
 // The cases of a test program, a line of text for each: its numbers are handed out, and it is printed again with what came of it.
 // A line that starts with `#` says what the next ones are about, and has no numbers.
 // Assumes nothing.
+use basics::both;
 use libc::STDOUT_FILENO;
 ghost use Prim.Native.Nat.{_<_};
 ghost use lib.ListN.{length};
@@ -24,10 +25,7 @@ fn longer(n: u64, digit: u8) -> u64 {
 }
 
 fn is_digit(c: u8) -> bool {
-    if c < 48 {
-        return false;
-    }
-    c <= 57
+    both(48 <= c, c <= 57)
 }
 
 fn with_digit(r: Reading, c: u8) -> Reading {

@@ -1,6 +1,7 @@
 // A test of a pair: steps handed to it, quiet rounds, and sequence numbers that go round. Each line of its input is a case; the first
 // number says what is done: 1 and 2 start a pair, 3 is a step, 4 and 5 are quiet rounds, 6 sends groups of messages.
 // Its expected output was worked out by hand from document 01. Assumes nothing.
+use basics::both;
 use cases::Case;
 use credits::Room;
 use libc::STDIN_FILENO;
@@ -16,9 +17,9 @@ struct Run {
     answer: u8,
     detail: u32,
     ident: u32,
-    taken: u64,
+    taken: u32,
     last: u32,
-    refused: u64,
+    refused: u32,
 }
 
 // One channel in use, with the same units for each category at either end.
@@ -55,34 +56,38 @@ fn begun(link: Setup) -> Run {
     }
 }
 
+fn more(n: u32, yes: bool) -> u32 {
+    if yes {
+        std::num::wrapping_add_u32(n, 1)
+    } else {
+        n
+    }
+}
+
 // A step of class or channel 0. Only Submit, step 1, has an ident; Take is step 6.
 fn step(r: Run, step: u32, end: u32, kind: u32, length: u32) -> Run {
     let p = r.pair;
+    let ident = if step == 1 { r.ident } else { 0 };
     let d = p.step(Step {
         step,
         end,
         class: 0,
         kind,
         length,
-        ident: if step == 1 { r.ident } else { 0 },
+        ident,
     });
     let pair = d.pair;
-    let mut next = r;
-    next.pair = pair;
-    next.answer = d.answer;
-    next.detail = d.detail;
-    if d.answer != 0 {
-        next.refused = std::num::wrapping_add_u64(r.refused, 1);
-        return next;
+    let accepted = d.answer == 0;
+    let taken = both(accepted, step == 6);
+    Run {
+        pair,
+        answer: d.answer,
+        detail: d.detail,
+        ident: more(r.ident, both(accepted, step == 1)),
+        taken: more(r.taken, taken),
+        last: if taken { d.detail } else { r.last },
+        refused: more(r.refused, !accepted),
     }
-    if step == 1 {
-        next.ident = std::num::wrapping_add_u32(r.ident, 1);
-    }
-    if step == 6 {
-        next.taken = std::num::wrapping_add_u64(r.taken, 1);
-        next.last = d.detail;
-    }
-    next
 }
 
 fn steps(r: Run, number: u32, end: u32, kind: u32) -> Run {
@@ -127,8 +132,8 @@ fn told(r: Run) -> Run {
 fn told_groups(r: Run) -> Run {
     let p = r.pair;
     let e = p.ends[0];
-    cases::tell(r.taken, r.last as u64);
-    cases::tell_more(r.refused);
+    cases::tell(r.taken as u64, r.last as u64);
+    cases::tell_more(r.refused as u64);
     cases::tell_more(e.sender.next.0 as u64);
     cases::tell_more(e.sender.acked.0 as u64);
     r
