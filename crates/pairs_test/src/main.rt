@@ -1,9 +1,14 @@
-// Steps handed to the pair: out of form, at no end, on a full line, on a pair out of shape. A line for each: answer and detail.
+// A test of a pair: steps handed to it, quiet rounds, and sequence numbers that go round. Each line of its input is a case; the first
+// number says what is done: 1 and 2 start a pair, 3 is a step, 4 and 5 are quiet rounds, 6 sends groups of messages, 7 is Timer with
+// other lines.
 // Its expected output was worked out by hand from document 01. Assumes nothing.
+use basics::both;
+use cases::Case;
 use counters::Seq;
+use credits::Room;
 use frames::Frame;
 use frames::Message;
-use libc::STDOUT_FILENO;
+use libc::STDIN_FILENO;
 use line::Line;
 use line::Slot;
 use pairs::Pair;
@@ -12,111 +17,119 @@ use setup::SLOTS;
 use setup::Setup;
 use setup::Units;
 
-fn plain(step: u32, end: u32) -> Step {
-    Step {
-        step,
-        end,
-        class: 0,
-        kind: 0,
-        length: 0,
-        ident: 0,
-    }
+// The pair, what the last step answered, what Take handed out, and how many steps were refused. `ident` is for the next packet.
+struct Run {
+    pair: Pair,
+    answer: u8,
+    detail: u32,
+    ident: u32,
+    taken: u32,
+    last: u32,
+    refused: u32,
 }
 
-// A message of this ident: it costs one header unit.
-fn message(end: u32, ident: u32) -> Step {
-    Step {
-        step: 1,
-        end,
-        class: 0,
-        kind: 6,
-        length: 0,
-        ident,
-    }
-}
-
-// One channel, with 16 header units and 2,047 data units for each category at either end.
-fn wide_setup() -> Setup {
-    let none = Units {
+// One channel in use, with the same units for each category at either end.
+fn link(header: u16, payload: u16) -> Setup {
+    let some = Units { header, payload };
+    let mut units = [Units {
         header: 0,
         payload: 0,
-    };
-    let most = Units {
-        header: 16,
-        payload: 2047,
-    };
-    let mut units = [none; SLOTS];
-    units[0] = most;
-    units[1] = most;
-    units[2] = most;
-    units[12] = most;
-    units[13] = most;
-    units[14] = most;
+    }; SLOTS];
+    units[0] = some;
+    units[1] = some;
+    units[2] = some;
+    units[12] = some;
+    units[13] = some;
+    units[14] = some;
     Setup {
         n: 1,
-        classes: [0u8; 7],
+        classes: [0; 7],
         units,
     }
 }
 
-fn tell(answer: u8, detail: u32) {
-    io::print_decimal(STDOUT_FILENO, answer as u64);
-    io::write_all(STDOUT_FILENO, b" ");
-    io::print_decimal(STDOUT_FILENO, detail as u64);
-    io::write_all(STDOUT_FILENO, b"\n");
+fn begun(link: Setup) -> Run {
+    let started = Pair::start(link);
+    let pair = started.pair;
+    Run {
+        pair,
+        answer: started.answer,
+        detail: 0,
+        ident: 0,
+        taken: 0,
+        last: 0,
+        refused: 0,
+    }
 }
 
-fn show(p: Pair, t: Step) -> Pair {
-    let d = p.step(t);
-    tell(d.answer, d.detail);
+fn more(n: u32, yes: bool) -> u32 {
+    if yes {
+        std::num::wrapping_add_u32(n, 1)
+    } else {
+        n
+    }
+}
+
+// A step of class or channel 0. Only Submit, step 1, has an ident; Take is step 6.
+fn step(r: Run, step: u32, end: u32, kind: u32, length: u32) -> Run {
+    let p = r.pair;
+    let ident = if step == 1 { r.ident } else { 0 };
+    let d = p.step(Step {
+        step,
+        end,
+        class: 0,
+        kind,
+        length,
+        ident,
+    });
     let pair = d.pair;
-    pair
+    let accepted = d.answer == 0;
+    let taken = both(accepted, step == 6);
+    Run {
+        pair,
+        answer: d.answer,
+        detail: d.detail,
+        ident: more(r.ident, both(accepted, step == 1)),
+        taken: more(r.taken, taken),
+        last: if taken { d.detail } else { r.last },
+        refused: more(r.refused, !accepted),
+    }
 }
 
-// The step four times, then four times again.
-fn eight(p: Pair, t: Step) -> Pair {
-    let q = show(show(show(show(p, t), t), t), t);
-    show(show(show(show(q, t), t), t), t)
+fn steps(r: Run, number: u32, end: u32, kind: u32) -> Run {
+    let mut s = r;
+    let mut i = 0usize;
+    while i < 7 {
+        s = step(s, number, end, kind, 0);
+        i += 1;
+    }
+    s
 }
 
-fn say(text: &[u8]) {
-    io::write_all(STDOUT_FILENO, text);
+// A frame goes from 1 to 0.
+fn back(r: Run) -> Run {
+    step(step(r, 2, 1, 0, 0), 3, 0, 0, 0)
 }
 
-// 11 before 6; 6 for an unknown step, for fields that have no use and for numbers that do not fit their bytes.
-fn out_of_form(p: Pair) -> Pair {
-    say(b"end 2, end 2 and step 9, step 9, step 0\n");
-    let a = show(show(p, plain(2, 2)), plain(9, 2));
-    let b = show(show(a, plain(9, 0)), plain(0, 0));
-    say(
-        b"Timer with a length, Submit of kind 256, Send at an empty end, Arrive from an empty line\n",
-    );
-    let mut timer = plain(7, 0);
-    timer.length = 1;
-    let mut kind = message(0, 0);
-    kind.kind = 256;
-    let c = show(show(b, timer), kind);
-    show(show(c, plain(2, 0)), plain(3, 1))
+// Seven messages go before the first is acknowledged: one Ack releases them all. They are taken, and the update gives their room back.
+fn group(r: Run) -> Run {
+    let sent = steps(steps(r, 1, 0, 6), 2, 0, 0);
+    let acknowledged = back(steps(sent, 3, 1, 0));
+    back(steps(acknowledged, 6, 1, 0))
 }
 
-// 16 for the ninth of a category; 18 while the line is full and no frame applies; 17 once one does.
-fn full(p: Pair) -> Pair {
-    say(b"eight messages, the ninth, eight Sends\n");
-    let a = show(eight(p, message(0, 5)), message(0, 6));
-    let b = eight(a, plain(2, 0));
-    say(b"eight more, eight Sends, Send\n");
-    let c = eight(eight(b, message(0, 7)), plain(2, 0));
-    let d = show(c, plain(2, 0));
-    say(b"Timer, Send, Arrive, Send, Lose, Damage\n");
-    let e = show(
-        show(show(show(d, plain(7, 0)), plain(2, 0)), plain(3, 1)),
-        plain(2, 0),
-    );
-    show(show(e, plain(5, 1)), plain(4, 1))
+fn groups(r: Run, count: usize) -> Run {
+    let mut s = r;
+    let mut i = 0;
+    while i < count {
+        s = group(s);
+        i += 1;
+    }
+    s
 }
 
 // A line of so many Acks of one number.
-fn acks(number: u16, len: usize) -> Line {
+fn acks(len: usize, number: u16) -> Line {
     let ack = Slot {
         frame: Frame::Message(Message::Ack(Seq(number))),
     };
@@ -126,32 +139,86 @@ fn acks(number: u16, len: usize) -> Line {
     }
 }
 
-// Timer at a pair with these lines.
-fn timer_with(p: Pair, first: Line, second: Line) {
-    let mut q = p;
+// The same ends with these lines.
+fn with_lines(r: Run, first: Line, second: Line) -> Run {
+    let mut p = r.pair;
     let lines = [first, second];
-    q.lines = lines;
-    show(q, plain(7, 0));
+    p.lines = lines;
+    let mut next = r;
+    next.pair = p;
+    next
 }
 
-// 10 for a line over its bound, and for a frame that 27 refuses.
-fn bad_lines(p: Pair) {
-    say(b"Timer with 16 Acks on each line, with 17 on one, with an Ack of 4,096 on the other\n");
-    timer_with(p, acks(0, 16), acks(0, 16));
-    timer_with(p, acks(0, 17), acks(0, 16));
-    timer_with(p, acks(0, 16), acks(4096, 1));
+// Timer at 0, step 7, once the lines hold so many Acks of these numbers.
+fn timer_with(r: Run, c: Case) -> Run {
+    let first = acks(c.place(1), c.short(2));
+    let second = acks(c.place(3), c.short(4));
+    step(with_lines(r, first, second), 7, 0, 0, 0)
+}
+
+// The answer and the detail.
+fn told(r: Run) -> Run {
+    cases::tell(r.answer as u64, r.detail as u64);
+    r
+}
+
+// How many were taken, the ident of the last, how many steps were refused; at 0 the next number and the one acknowledged last.
+fn told_groups(r: Run) -> Run {
+    let p = r.pair;
+    let e = p.ends[0];
+    cases::tell(r.taken as u64, r.last as u64);
+    cases::tell_more(r.refused as u64);
+    cases::tell_more(e.sender.next.0 as u64);
+    cases::tell_more(e.sender.acked.0 as u64);
+    r
+}
+
+// How many headers Take gave back: it started with one.
+fn given_back(r: Room) -> u64 {
+    std::num::wrapping_sub_u8(r.allocated.h.0, 1) as u64
+}
+
+// The posted packets and the completions that were taken at 1, what still waits to be sent at 0, and what waits to be taken at 1.
+fn after_rounds(r: Run, p: Pair) -> Run {
+    let e0 = p.ends[0];
+    let e1 = p.ends[1];
+    let queues = e0.sender.queues;
+    let inboxes = e1.receiver.inboxes;
+    let rooms = e1.receiver.rooms;
+    cases::tell(given_back(rooms[0]), given_back(rooms[2]));
+    cases::tell_more(queues[0].len as u64);
+    cases::tell_more(inboxes[0].len as u64);
+    let mut next = r;
+    next.pair = p;
+    next
+}
+
+fn done(r: Run, c: Case) -> Run {
+    match c.number(0) {
+        0 => r,
+        1 => told(begun(link(c.short(1), c.short(2)))),
+        2 => told(begun(Setup::blank())),
+        3 => told(step(r, c.word(1), c.word(2), c.word(3), c.word(4))),
+        4 => after_rounds(r, rounds::quiet_round(r.pair)),
+        5 => after_rounds(r, rounds::quiet_rounds(r.pair, c.place(1))),
+        6 => told_groups(groups(r, c.place(1))),
+        _ => told(timer_with(r, c)),
+    }
+}
+
+fn lines(text: &[u8]) {
+    let mut r = begun(Setup::blank());
+    let mut at = 0;
+    while at < text.len() {
+        let c = cases::read(text, at);
+        r = done(r, c);
+        cases::end_line();
+        at = c.next;
+    }
 }
 
 fn main() {
-    let started = Pair::start(wide_setup());
-    say(b"start\n");
-    tell(started.answer, 0);
-    let p = started.pair;
-    full(out_of_form(p));
-    bad_lines(p);
-    let refused = Pair::start(Setup::blank());
-    say(b"start from a bad setup, Timer at the pair of the blank setup\n");
-    tell(refused.answer, 0);
-    let q = refused.pair;
-    show(q, plain(7, 0));
+    let mut text = io::large_buffer();
+    let n = io::read_full(STDIN_FILENO, &mut text);
+    lines(&text[..n]);
 }

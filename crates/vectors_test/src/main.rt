@@ -177,42 +177,45 @@ fn reported(p: Place) -> u32 {
     1
 }
 
-// A script's name is its path without `.plrn`.
-fn print_name(path: &[u8]) {
-    if path.len() > 5 {
-        print(&path[0..path.len() - 5]);
-    }
-}
-
-// Holds a script to the listing that argument i names.
-fn compared(script: &[u8], i: usize) -> u32 {
+// Reads the file that an argument names. Nothing is read of one that cannot be opened.
+fn read_file(i: usize, buf: &mut [u8]) -> usize {
     let mut path = io::buffer();
     let length = os::arg(i, &mut path);
     let fd = os::open_read(&path[..length]);
     if fd < 0 {
         os::fail(&path[..length]);
-        return 1;
+        return 0;
     }
-    let mut stored = io::large_buffer();
-    let n = io::read_full(fd, &mut stored);
+    let n = io::read_full(fd, buf);
     libc::close(fd);
-    reported(behind_script(script, &stored[..n]))
+    n
+}
+
+// Prints an argument.
+fn print_path(i: usize) {
+    let mut path = io::buffer();
+    let length = os::arg(i, &mut path);
+    print(&path[..length]);
+}
+
+// Holds the first n bytes, a script, to the listing that argument i names.
+fn compared(script: &[u8], n: usize, i: usize) -> u32 {
+    let mut stored = io::large_buffer();
+    let m = read_file(i, &mut stored);
+    if n <= script.len() {
+        if m <= 65536 {
+            return reported(behind_script(&script[0..n], &stored[0..m]));
+        }
+    }
+    1
 }
 
 // Reads the script that argument i names, and holds it to the listing that argument j names.
 fn compared_files(i: usize, j: usize) -> u32 {
-    let mut path = io::buffer();
-    let length = os::arg(i, &mut path);
-    let fd = os::open_read(&path[..length]);
-    if fd < 0 {
-        os::fail(&path[..length]);
-        return 1;
-    }
-    print_name(&path[..length]);
+    print_path(i);
     let mut script = io::large_buffer();
-    let n = io::read_full(fd, &mut script);
-    libc::close(fd);
-    compared(&script[..n], j)
+    let n = read_file(i, &mut script);
+    compared(&script, n, j)
 }
 
 fn main() {

@@ -1,10 +1,10 @@
--- `script_files::first_difference` is safe and ends: the measure is what is left of the first list.
+-- `script_files::same` is safe and ends: the measure is what is left of the first list.
 -- Assumes nothing.
 use Prim.Native.Nat.{_-_}
 use native.Mathlib.Omega.{arith}
 use lib.ListN.{length}
-use Rattle.script_files.proofs.first_difference.Statement.{statement}
-use Rattle.script_files.proofs.first_difference.Tie as tie
+use Rattle.script_files.proofs.same.Statement.{statement}
+use Rattle.script_files.proofs.same.Tie as tie
 
 abbrev Inv-loop : tie.InvT-loop
 Inv-loop a b i₀ i = Unit {0}
@@ -12,8 +12,8 @@ Inv-loop a b i₀ i = Unit {0}
 abbrev μ-loop : tie.MeasureT-loop
 μ-loop a b i₀ i = length a - i
 
-pub first-difference-spec : {M : Type 1} → statement M
-first-difference-spec =
+pub same-spec : {M : Type 1} → statement M
+same-spec =
     tie.close
     (tie.spec
     Inv-loop

@@ -1,9 +1,9 @@
--- `rounds_test::groups` is safe and ends: the measure is how many groups are left.
+-- `pairs_test::groups` is safe and ends: the measure is how many groups are left.
 -- Assumes nothing.
 use native.Mathlib.Omega.{arith}
 use Prim.Native.Nat.{_-_}
-use Rattle.rounds_test.proofs.groups.Statement.{statement}
-use Rattle.rounds_test.proofs.groups.Tie as tie
+use Rattle.pairs_test.proofs.groups.Statement.{statement}
+use Rattle.pairs_test.proofs.groups.Tie as tie
 
 abbrev Inv-loop : tie.InvT-loop
 Inv-loop count s₀ i₀ s i = Unit {0}
