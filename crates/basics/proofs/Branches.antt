@@ -1,8 +1,11 @@
--- What holds of a choice by a test, from its two branches; and what conjunctions of tests say.
+-- What holds of a choice by a test, from its two branches; what conjunctions of tests say; and where a row of answers refuses nothing.
 -- Assumes nothing.
+use Prim.Native.Nat.{ℕ}
 use mathlib.Core.Path.{_≡_, refl}
 use mathlib.Core.Bool.{Bool, true, false, _&&_, not}
-use Rattle.basics.specs.Choice.{if_then_else_}
+use lib.Dec.{eqb}
+use borrow.Author.Tests.{eqb-true, eqb-false}
+use Rattle.basics.specs.Choice.{if_then_else_, firstOf}
 
 pub by-test : {A : Type 0} (P : A → Type 0) (b : Bool) {x y : A} → (b ≡ true → P x) → (b ≡ false → P y) → P (if b then x else y)
 by-test P true f g = f refl
@@ -31,3 +34,11 @@ and-assoc false b c = refl
 pub not-not : (a : Bool) → not (not a) ≡ a
 not-not true = refl
 not-not false = refl
+
+-- where the first refusal of two answers is none, neither refuses
+pub first-zero : (a b : ℕ) → firstOf a b ≡ 0 → (a ≡ 0) × (b ≡ 0)
+first-zero a b e = go (eqb a 0) refl e
+  where
+    go : (t : Bool) → eqb a 0 ≡ t → (if t then b else a) ≡ 0 → (a ≡ 0) × (b ≡ 0)
+    go true t e = (eqb-true a 0 t, e)
+    go false t e = absurd (eqb-false a 0 t e)

@@ -1,4 +1,4 @@
--- Laws of a test that is asked of many.
+-- Laws of a test that is asked of many: of each number below a bound, and of the elements or parts of a list up to the first that fails.
 -- Assumes nothing.
 use Prim.Native.Nat.{ℕ, zero, suc, _+_, _-_, _*_, _≤_, _<_}
 use mathlib.Core.Path.{_≡_, refl, ap, _∙_}
@@ -15,6 +15,7 @@ use lib.Seq.{drop-drop}
 use Rattle.basics.specs.Choice.{if_then_else_}
 use Rattle.basics.specs.Each.{each, firstNot}
 use Rattle.basics.specs.Parts.{part, cut}
+use Rattle.basics.proofs.Branches.{and-left, and-right}
 
 -- A choice by what a test says, and by the order of two numbers.
 pub by-bool : {X : Type 0} (t : Bool) → (t ≡ true → X) → (t ≡ false → X) → X
@@ -23,18 +24,6 @@ by-bool false f g = g refl
 
 pub by-order : {X : Type 0} (a b : ℕ) → (a < b → X) → (b ≤ a → X) → X
 by-order a b f g = by-bool (ltb a b) (λ h. f (ltb-true a b h)) (λ h. g (ltb-false a b h))
-
--- Both halves of a conjunction that holds.
-pub both-left : (a b : Bool) → (a && b) ≡ true → a ≡ true
-both-left true b h = refl
-both-left false b h = h
-
-pub both-right : (a b : Bool) → (a && b) ≡ true → b ≡ true
-both-right true b h = h
-both-right false b h = absurd (omega (arith, z))
-  where
-    z : _≡_ {A = ℕ} 0 1
-    z = cc
 
 -- a test of one number more
 pub each-more : (n : ℕ) (f : ℕ → Bool) → each (n + 1) f ≡ (each n f && f n)
@@ -47,8 +36,8 @@ unfolding each
 each-at zero f i h k = absurd (not-suc-le-zero k)
 each-at (suc n) f i h k =
     ⊎-elim
-    (λ (e : i ≡ n). rw e (both-right (each n f) (f n) h))
-    (λ (j : i < n). each-at n f i (both-left (each n f) (f n) h) j)
+    (λ (e : i ≡ n). rw e (and-right (each n f) (f n) h))
+    (λ (j : i < n). each-at n f i (and-left (each n f) (f n) h) j)
     (eq-or-lt-of-le (le-of-suc-le-suc k))
 
 -- no more pass than there are

@@ -8,7 +8,6 @@ use native.Mathlib.Omega.{arith}
 use native.Mathlib.Numerals.{add-one}
 use lib.ListN.{length, getD, take, drop, length-take, drop-of-length-le}
 use lib.Seq.{drop-cons, take-suc, getD-take}
-use Rattle.basics.proofs.Branches.{and-true, and-assoc}
 use Rattle.basics.specs.Lists.{total, all, find, findAfter}
 use Rattle.basics.specs.declared.Found.the-variants.{At, Nothing}
 
@@ -63,9 +62,3 @@ module _ {A : Type 0} (l : List A) (i : ℕ) (past : length l ≤ i) where
 
   pub find-after-end : (ok : List A → A → Bool) (older : List A) → findAfter ok older (drop i l) i ≡ Nothing
   find-after-end ok older = rw rest-none
-
--- ---- one more at the end
-
-pub all-snoc : {A : Type 0} (ok : A → Bool) (xs : List A) (x : A) → all ok (xs ++ (x ∷ [])) ≡ (all ok xs && ok x)
-all-snoc ok [] x = and-true (ok x)
-all-snoc ok (y ∷ ys) x = rw (all-snoc ok ys x, and-assoc (ok y) (all ok ys) (ok x))

@@ -9,7 +9,7 @@ use Rattle.packets.specs.declared.Category.the-variants.{Posted, NonPosted, Com
 use Rattle.packets.specs.Packets.{categoryOf}
 use Rattle.credits.specs.declared.Credit.{Credit}
 use Rattle.basics.proofs.Branches.{and-true, and-false, not-not}
-use Rattle.basics.proofs.Walk.{all-snoc}
+use Rattle.basics.proofs.All.{all-snoc}
 use Rattle.choice.specs.Choice.{creditOf, noneOf, eligible}
 use Rattle.choice.specs.Seen.{seenIn, seeing, mayGo}
 

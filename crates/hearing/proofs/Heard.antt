@@ -29,7 +29,7 @@ use Rattle.setup.specs.Setup.{channels}
 use Rattle.sender.specs.declared.Sender.{Sender}
 use Rattle.sender.specs.declared.Told.{Told}
 use Rattle.sender.specs.Sender.{creditAt, withCredit, withReplay, begun, told}
-use Rattle.sender.proofs.Arrays.{Arrays, arrays-begun}
+use Rattle.sender.proofs.Arrays.{Arrays, arrays-replay}
 use Rattle.sender.proofs.Slots.{slot-below}
 use Rattle.hearing.specs.Hearing.{releases, moved, acknowledged, again, answered, limited, hears}
 
@@ -88,7 +88,7 @@ moved-within k left i j h e = go (leb k i) refl (eqb left 0) refl e
 
 pub arrays-again : (s : Sender) → Arrays s → Arrays (again s)
 unfolding again
-arrays-again s a = by-test Arrays (eqb (s .buffer .len) 0) (λ t. a) (λ t. arrays-begun s a)
+arrays-again s a = by-test Arrays (eqb (s .buffer .len) 0) (λ t. a) (λ t. arrays-replay s a (begun (s .replay)))
 
 -- ---- an update: accepted or refused
 

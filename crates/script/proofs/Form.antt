@@ -7,7 +7,7 @@ use native.Mathlib.Omega.{arith}
 use lib.Dec.{leb}
 use lib.ListN.{length}
 use borrow.Author.Tests.{leb-true}
-use Rattle.basics.proofs.Each.{both-left, both-right}
+use Rattle.basics.proofs.Branches.{and-left, and-right}
 use Rattle.setup.specs.Setup.{within}
 use Rattle.script.specs.Script.{trailerBytes}
 use Rattle.script.specs.Step.{FitsBytes, fieldsFit, inForm, isSubmit, isTake, numbersOf, recordBytes, room}
@@ -34,11 +34,11 @@ module _ (t : Step) (ok : inForm t ≡ true) where
   step-fits : t .step ≤ 8
   unfolding inForm
   step-fits =
-      leb-true (t .step) 8 (both-right (leb 1 (t .step)) (leb (t .step) 8) (both-left (within 1 8 (t .step)) (leb (t .end) 1 && fieldsFit t) ok))
+      leb-true (t .step) 8 (and-right (leb 1 (t .step)) (leb (t .step) 8) (and-left (within 1 8 (t .step)) (leb (t .end) 1 && fieldsFit t) ok))
 
   rest : (leb (t .end) 1 && fieldsFit t) ≡ true
   unfolding inForm
-  rest = both-right (within 1 8 (t .step)) (leb (t .end) 1 && fieldsFit t) ok
+  rest = and-right (within 1 8 (t .step)) (leb (t .end) 1 && fieldsFit t) ok
 
   abbrev one : ℕ
   one = room (isSubmit (t .step) || isTake (t .step)) 255
@@ -48,18 +48,18 @@ module _ (t : Step) (ok : inForm t ≡ true) where
 
   fields : (leb (t .class) one && (leb (t .kind) one && packet)) ≡ true
   unfolding fieldsFit
-  fields = both-right (leb (t .end) 1) (fieldsFit t) rest
+  fields = and-right (leb (t .end) 1) (fieldsFit t) rest
 
   later : (leb (t .kind) one && packet) ≡ true
-  later = both-right (leb (t .class) one) (leb (t .kind) one && packet) fields
+  later = and-right (leb (t .class) one) (leb (t .kind) one && packet) fields
 
   pub form-fits : FitsBytes t
   form-fits =
       let s = step-fits in
-      let e = leb-true (t .end) 1 (both-left (leb (t .end) 1) (fieldsFit t) rest) in
-      let c = at-most (t .class) (isSubmit (t .step) || isTake (t .step)) 255 (both-left (leb (t .class) one) (leb (t .kind) one && packet) fields) in
-      let k = at-most (t .kind) (isSubmit (t .step) || isTake (t .step)) 255 (both-left (leb (t .kind) one) packet later) in
+      let e = leb-true (t .end) 1 (and-left (leb (t .end) 1) (fieldsFit t) rest) in
+      let c = at-most (t .class) (isSubmit (t .step) || isTake (t .step)) 255 (and-left (leb (t .class) one) (leb (t .kind) one && packet) fields) in
+      let k = at-most (t .kind) (isSubmit (t .step) || isTake (t .step)) 255 (and-left (leb (t .kind) one) packet later) in
       let l = at-most (t .length) (isSubmit (t .step)) 65535
-      (both-left (leb (t .length) (room (isSubmit (t .step)) 65535)) (leb (t .ident) (room (isSubmit (t .step)) 4294967295))
-      (both-right (leb (t .kind) one) packet later)) in
+      (and-left (leb (t .length) (room (isSubmit (t .step)) 65535)) (leb (t .ident) (room (isSubmit (t .step)) 4294967295))
+      (and-right (leb (t .kind) one) packet later)) in
       record { step = omega arith; end = omega arith; class = omega arith; kind = omega arith; length = omega arith }

@@ -10,7 +10,8 @@ use lib.ListN.{length, drop}
 use borrow.Author.Tests.{eqb-true, leb-true, le-ltb, lt-ltb, ne-eqb, not-false}
 use Rattle.basics.specs.Each.{firstNot}
 use Rattle.basics.specs.Parts.{cut, joined, part}
-use Rattle.basics.proofs.Each.{both-left, both-right, by-bool, by-order}
+use Rattle.basics.proofs.Branches.{and-left, and-right}
+use Rattle.basics.proofs.Each.{by-bool, by-order}
 use Rattle.setup.specs.Setup.{inRange}
 use Rattle.setup.specs.Bytes.{setupAt, setupLength}
 use Rattle.setup.specs.declared.Setup.{Setup}
@@ -25,14 +26,14 @@ unfolding agrees
 agreed t size h =
     let same = eqb size (scriptLength (t .count)) in
     let few = leb (t .count) mostSteps in
-    let both = both-right (eqb (t .offset) (12 * t .count)) (same && few) (not-false (agrees t size) h) in
-    (eqb-true size (scriptLength (t .count)) (both-left same few both), leb-true (t .count) mostSteps (both-right same few both))
+    let both = and-right (eqb (t .offset) (12 * t .count)) (same && few) (not-false (agrees t size) h) in
+    (eqb-true size (scriptLength (t .count)) (and-left same few both), leb-true (t .count) mostSteps (and-right same few both))
 
 pub agreed-offset : (t : Trailer) (size : ℕ) → not (agrees t size) ≡ false → t .offset ≡ 12 * t .count
 unfolding agrees
 agreed-offset t size h =
     eqb-true (t .offset) (12 * t .count)
-    (both-left (eqb (t .offset) (12 * t .count)) (eqb size (scriptLength (t .count)) && leb (t .count) mostSteps) (not-false (agrees t size) h))
+    (and-left (eqb (t .offset) (12 * t .count)) (eqb size (scriptLength (t .count)) && leb (t .count) mostSteps) (not-false (agrees t size) h))
 
 module _ (b : List ℕ) (space : ℕ) where
   pub by-1 : length b < scriptLength 0 → refused 1 0 ≡ readScript b space

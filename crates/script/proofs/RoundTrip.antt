@@ -11,7 +11,8 @@ use lib.Seq.{length-take-le}
 use borrow.Author.Tests.{eq-eqb, eqb-true, le-leb, not-false}
 use Rattle.basics.specs.Each.{firstNot}
 use Rattle.basics.specs.Parts.{cut, joined, part}
-use Rattle.basics.proofs.Each.{both-left, both-right, first-map, first-most, first-none, first-same, first-weaker}
+use Rattle.basics.proofs.Branches.{and-left, and-right}
+use Rattle.basics.proofs.Each.{first-map, first-most, first-none, first-same, first-weaker}
 use Rattle.basics.proofs.Number.{byte-0, byte-1, byte-2, byte-3, high-two, low-two, whole-four, whole-two}
 use Rattle.basics.proofs.Parts.{Bytes, bytes-drop, bytes-take, cut-back, cut-row, joined-cut, last-part, length-cut, length-read, length-row, listed, listed-all, map-back, middle-part, three-parts}
 use Rattle.setup.specs.Setup.{inRange, slots}
@@ -43,9 +44,9 @@ form-back t = ap inForm (step-back t)
 pub record-same : (r : List ℕ) → length r ≡ 12 → Bytes r → recordInForm r ≡ true → recordBytes (stepAt r) ≡ r
 unfolding stepAt recordBytes recordInForm listed
 record-same r h b f =
-    let six = eqb-true (getD r 6 0) 0 (both-left (eqb (getD r 6 0) 0) (eqb (getD r 7 0) 0 && inForm (stepAt r)) f) in
-    let seven = eqb-true (getD r 7 0) 0 (both-left (eqb (getD r 7 0) 0) (inForm (stepAt r))
-    (both-right (eqb (getD r 6 0) 0) (eqb (getD r 7 0) 0 && inForm (stepAt r)) f)) in
+    let six = eqb-true (getD r 6 0) 0 (and-left (eqb (getD r 6 0) 0) (eqb (getD r 7 0) 0 && inForm (stepAt r)) f) in
+    let seven = eqb-true (getD r 7 0) 0 (and-left (eqb (getD r 7 0) 0) (inForm (stepAt r))
+    (and-right (eqb (getD r 6 0) 0) (eqb (getD r 7 0) 0 && inForm (stepAt r)) f)) in
     simp (
       low-two (getD r 4 0) (getD r 5 0) (b 4),
       high-two (getD r 4 0) (getD r 5 0) (b 4),
@@ -164,12 +165,12 @@ trailer-same p h b offset marked =
     let m9 = eqb (getD p 9 0) 76 in
     let m10 = eqb (getD p 10 0) 82 in
     let m11 = eqb (getD p 11 0) 78 in
-    let e8 = eqb-true (getD p 8 0) 80 (both-left m8 (m9 && (m10 && m11)) marked) in
-    let r8 = both-right m8 (m9 && (m10 && m11)) marked in
-    let e9 = eqb-true (getD p 9 0) 76 (both-left m9 (m10 && m11) r8) in
-    let r9 = both-right m9 (m10 && m11) r8 in
-    let e10 = eqb-true (getD p 10 0) 82 (both-left m10 m11 r9) in
-    let e11 = eqb-true (getD p 11 0) 78 (both-right m10 m11 r9) in
+    let e8 = eqb-true (getD p 8 0) 80 (and-left m8 (m9 && (m10 && m11)) marked) in
+    let r8 = and-right m8 (m9 && (m10 && m11)) marked in
+    let e9 = eqb-true (getD p 9 0) 76 (and-left m9 (m10 && m11) r8) in
+    let r9 = and-right m9 (m10 && m11) r8 in
+    let e10 = eqb-true (getD p 10 0) 82 (and-left m10 m11 r9) in
+    let e11 = eqb-true (getD p 11 0) 78 (and-right m10 m11 r9) in
     simp (
       ← offset,
       byte-0 (getD p 0 0) (getD p 1 0) (getD p 2 0) (getD p 3 0) (b 0) (b 1) (b 2),
@@ -239,7 +240,7 @@ module _ (b : List ℕ) (space : ℕ) (bytes : Bytes b) (took : readScript b spa
       let n = length-cut 12 (countOf b) b in
       first-map inForm stepAt (recordsOf b)
       ∙ first-weaker recordInForm (λ r. inForm (stepAt r))
-      (λ r h. both-right (eqb (getD r 7 0) 0) (inForm (stepAt r)) (both-right (eqb (getD r 6 0) 0) (eqb (getD r 7 0) 0 && inForm (stepAt r)) h))
+      (λ r h. and-right (eqb (getD r 7 0) 0) (inForm (stepAt r)) (and-right (eqb (getD r 6 0) 0) (eqb (getD r 7 0) 0 && inForm (stepAt r)) h))
       (recordsOf b) (all-records ∙ sym n)
       ∙ n
 

@@ -12,6 +12,7 @@ use Rattle.store.specs.Store.{capacity, empty, pushed, removed}
 use Rattle.store.proofs.Held.{length-pushed, length-removed}
 use Rattle.setup.specs.declared.Setup.{Setup}
 use Rattle.setup.specs.Setup.{channels, per-end, slots}
+use Rattle.sender.specs.declared.Replay.{Replay}
 use Rattle.sender.specs.declared.Sender.{Sender}
 use Rattle.sender.specs.declared.Told.{Told}
 use Rattle.sender.specs.Sender.{startOf, queueAt, withReplay, submitted, begun, timerOf}
@@ -91,16 +92,17 @@ module _ (s : Sender) (a : Arrays s) where
             (length-pushed (queueAt s channel) (a .queue-is channel) p ∙ a .queue-is channel);
       }
 
-  pub arrays-begun : Arrays (withReplay s (begun (s .replay)))
-  arrays-begun = record { queues-are = a .queues-are; credits-are = a .credits-are; buffer-is = a .buffer-is; queue-is = a .queue-is }
+  -- the replay alone changes
+  pub arrays-replay : (x : Replay) → Arrays (withReplay s x)
+  arrays-replay x = record { queues-are = a .queues-are; credits-are = a .credits-are; buffer-is = a .buffer-is; queue-is = a .queue-is }
 
   pub arrays-timer : Arrays (timerOf s .sender)
   unfolding timerOf
-  arrays-timer = by-test (λ (t : Told). Arrays (t .sender)) (eqb (s .buffer .len) 0) (λ t. a) (λ t. arrays-begun)
+  arrays-timer = by-test (λ (t : Told). Arrays (t .sender)) (eqb (s .buffer .len) 0) (λ t. a) (λ t. arrays-replay (begun (s .replay)))
 
   pub arrays-replayed : (i : ℕ) → Arrays (replayed s i)
   unfolding replayed
-  arrays-replayed i = record { queues-are = a .queues-are; credits-are = a .credits-are; buffer-is = a .buffer-is; queue-is = a .queue-is }
+  arrays-replayed i = arrays-replay _
 
   pub arrays-sent : (channel place : ℕ) → Arrays (sentNew s channel place)
   unfolding sentNew

@@ -1,6 +1,6 @@
 -- A state in shape keeps each rule.
 -- Assumes nothing.
-use mathlib.Core.Path.{_≡_, refl}
+use mathlib.Core.Path.{_≡_}
 use mathlib.Core.Bool.{Bool, true, _&&_}
 use Rattle.basics.proofs.Branches.{and-left, and-right}
 use Rattle.setup.specs.Setup.{inRange}

@@ -1,74 +1,38 @@
 -- An end that was started from a setup in range is in shape.
 -- Assumes nothing.
-use Prim.Native.Nat.{ℕ, _+_, _-_, _*_, _%_, _/_, _≤_, _<_}
-use mathlib.Core.Path.{_≡_, refl, sym, ap, _∙_}
-use mathlib.Core.Bool.{Bool, true, false, _&&_, not}
-use mathlib.Core.List.{List, [], map}
+use Prim.Native.Nat.{ℕ, _+_, _-_, _%_, _≤_, _<_}
+use mathlib.Core.Path.{_≡_, refl, ap, _∙_}
+use mathlib.Core.Bool.{true}
+use mathlib.Core.List.{[]}
+use native.Mathlib.Nat.{zero-add}
 use native.Mathlib.Omega.{arith}
-use lib.Dec.{leb, ltb, eqb}
-use lib.ListN.{getD, take, drop, getD-replicate, List·getD-map}
-use lib.Seq.{getD-take, getD-drop}
-use borrow.Author.Tests.{lt-ltb, eq-eqb, leb-true, eqb-true}
-use Rattle.basics.specs.Choice.{if_then_else_}
+use lib.ListN.{getD, take, getD-replicate, List·getD-map}
+use lib.Seq.{getD-take}
+use borrow.Author.Tests.{lt-ltb, eq-eqb}
 use Rattle.basics.specs.Each.{each}
-use Rattle.basics.proofs.Each.{by-bool, both-left, both-right}
 use Rattle.basics.proofs.Loops.{each-all}
 use Rattle.counters.specs.Counters.{between}
 use Rattle.counters.specs.Wrapped.{minus, plus}
-use Rattle.credits.specs.Credits.{advertised, none, creditFor, roomOf, freeOf}
+use Rattle.credits.specs.Credits.{advertised}
 use Rattle.packets.specs.declared.Category.{Category}
 use Rattle.packets.specs.declared.Category.the-variants.{Posted, NonPosted, Completion}
-use Rattle.packets.specs.Packets.{numberOf}
+use Rattle.packets.specs.Packets.{numberOf, slotOf}
 use Rattle.store.specs.Store.{empty}
 use Rattle.packets.proofs.Numbers.{number-below}
 use Rattle.setup.specs.declared.Setup.{Setup}
 use Rattle.setup.specs.declared.Units.{Units}
-use Rattle.setup.specs.Setup.{channels, per-end, noUnits, within, unitsAt, unitsFit, inRange}
-use Rattle.setup.proofs.Range.{units-fit}
+use Rattle.setup.specs.Setup.{channels, per-end, noUnits, inRange}
+use Rattle.setup.proofs.Range.{units-slot, units-small}
 use Rattle.sender.specs.Sender as S
+use Rattle.sender.proofs.Changes.{credit-start}
+use Rattle.sender.proofs.Slots.{slot-below}
 use Rattle.receiver.specs.Receiver as R
 use Rattle.ends.specs.Ends.{endOf}
 use Rattle.shape.specs.Shape.{queueBound, withinBounds, inPlace, framesFit, creditFits, roomFits, sentFit, receivedFit, numbersFit, numbersRun, replayIn, markInUse, marksInUse, addsUp, categoryAddsUp, channelAddsUp, roomAddsUp, inShape}
 use Rattle.shape.proofs.Rules.{in-shape-whole}
 
--- ---- units that fit are small: at most 16 header units, so they are advertised as they are, and at most 2,047 data units
-
-fit-small : (used : Bool) (u : Units) → unitsFit used u ≡ true → (u .header ≤ 16) × (u .payload ≤ 2047)
-unfolding unitsFit
-fit-small true u h =
-    let a = both-left (within 1 16 (u .header)) (within 1 2047 (u .payload)) h in
-    let b = both-right (within 1 16 (u .header)) (within 1 2047 (u .payload)) h in (
-      leb-true (u .header) 16 (both-right (leb 1 (u .header)) (leb (u .header) 16) a),
-      leb-true (u .payload) 2047 (both-right (leb 1 (u .payload)) (leb (u .payload) 2047) b),
-    )
-fit-small false u h = (
-  omega (arith, eqb-true (u .header) 0 (both-left (eqb (u .header) 0) (eqb (u .payload) 0) h)),
-  omega (arith, eqb-true (u .payload) 0 (both-right (eqb (u .header) 0) (eqb (u .payload) 0) h)),
-)
-
 module _ (link : Setup) (ok : inRange link ≡ true) where
-  -- ---- the setup's units by slot
-
-  units-slot : (end channel category : ℕ) → end < 2 → channel < channels → category < 3
-      → unitsAt link end channel category ≡ getD (link .units) (12 * end + (3 * channel + category)) noUnits
-  unfolding unitsAt
-  units-slot end channel category h i j =
-      let e : 12 * end + 3 * channel + category ≡ 12 * end + (3 * channel + category) = omega arith in
-      simp (unitsAt, lt-ltb end 2 h, lt-ltb channel 4 i, lt-ltb category 3 j, e)
-
-  units-small : (end slot : ℕ) → end < 2 → slot < per-end
-      → (getD (link .units) (12 * end + slot) noUnits .header ≤ 16) × (getD (link .units) (12 * end + slot) noUnits .payload ≤ 2047)
-  units-small end slot h k =
-      let e : 3 * (slot / 3) + slot % 3 ≡ slot = omega arith in
-      let i : slot / 3 < 4 = omega arith in
-      let j : slot % 3 < 3 = omega arith in
-      rw (units-slot end (slot / 3) (slot % 3) h i j, e) at (fit-small _ _ (units-fit link ok end (slot / 3) (slot % 3) h i j))
-
   -- ---- what stands at a slot at the start
-
-  credit-starts : (slot : ℕ) → S.creditAt (S.startOf link) slot ≡ S.creditOf (getD (link .units) (12 + slot) noUnits)
-  unfolding S.startOf advertised
-  credit-starts slot = List·getD-map S.creditOf (drop per-end (link .units)) slot noUnits ∙ ap S.creditOf (getD-drop per-end (link .units) slot noUnits)
 
   room-starts : (slot : ℕ) → slot < per-end → R.roomAt (R.startOf link) slot ≡ R.roomFor (getD (link .units) slot noUnits)
   unfolding R.startOf advertised
@@ -105,14 +69,13 @@ module _ (link : Setup) (ok : inRange link ≡ true) where
   credit-fits : (slot : ℕ) → slot < per-end → creditFits (S.creditAt (S.startOf link) slot) ≡ true
   unfolding advertised
   credit-fits slot h =
-      let small : getD (link .units) (12 + slot) noUnits .payload < 4096 = omega (arith, units-small 1 slot (omega arith) h .1) in
-      rw (credit-starts slot, lt-ltb _ _ small)
+      let small : getD (link .units) (per-end + slot) noUnits .payload < 4096 = omega (arith, units-small link ok 1 slot (omega arith) h .1) in
+      rw (credit-start link slot, lt-ltb _ _ small)
 
   room-fits : (slot : ℕ) → slot < per-end → roomFits (R.roomAt (R.startOf link) slot) ≡ true
   unfolding advertised
   room-fits slot h =
-      let z : 12 * 0 + slot ≡ slot = omega arith in
-      let small : getD (link .units) slot noUnits .payload < 4096 = omega (arith, rw z at (units-small 0 slot (omega arith) h .1)) in
+      let small : getD (link .units) slot noUnits .payload < 4096 = omega (arith, rw zero-add at (units-small link ok 0 slot (omega arith) h .1)) in
       rw (room-starts slot h, lt-ltb _ _ small)
 
   numbers-start : numbersFit (S.startOf link) (R.startOf link) ≡ true
@@ -144,11 +107,10 @@ module _ (link : Setup) (ok : inRange link ≡ true) where
   category-starts : (channel : ℕ) (c : Category) → channel < channels → categoryAddsUp link (R.startOf link) channel c ≡ true
   unfolding categoryAddsUp
   category-starts channel c h =
-      let k : 3 * channel + numberOf c < 12 = omega (arith, number-below c) in
-      let z : 12 * 0 + (3 * channel + numberOf c) ≡ 3 * channel + numberOf c = omega arith in
-      let small = rw z at (units-small 0 (3 * channel + numberOf c) (omega arith) k) in
-      rw (room-starts (3 * channel + numberOf c) k, units-slot 0 channel (numberOf c) (omega arith) h (number-below c), z, inbox-starts channel h)
-      (all-free (getD (link .units) (3 * channel + numberOf c) noUnits) (small .0) (small .1))
+      let k : slotOf channel c < per-end = slot-below channel c h in
+      let small = rw zero-add at (units-small link ok 0 (slotOf channel c) (omega arith) k) in
+      rw (room-starts (slotOf channel c) k, units-slot link 0 channel (numberOf c) (omega arith) h (number-below c), zero-add, inbox-starts channel h)
+      (all-free (getD (link .units) (slotOf channel c) noUnits) (small .0) (small .1))
 
   room-start : roomAddsUp link (R.startOf link) ≡ true
   unfolding roomAddsUp
