@@ -1,0 +1,3 @@
+pub mod Wrapped
+pub mod Loads
+pub mod Given

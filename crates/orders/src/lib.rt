@@ -1,0 +1,1 @@
+// Packets that leave a list by category: laws alone, under specs/ and proofs/.

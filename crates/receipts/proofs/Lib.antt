@@ -1,0 +1,4 @@
+pub mod Arrays
+pub mod Changes
+pub mod Marks
+pub mod Replies

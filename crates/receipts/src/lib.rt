@@ -1,0 +1,1 @@
+// What the receiving half holds after each change: laws alone, under proofs/.

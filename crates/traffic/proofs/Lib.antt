@@ -1,0 +1,4 @@
+pub mod Forth
+pub mod Acks
+pub mod Updates
+pub mod Range

@@ -1,0 +1,4 @@
+pub mod Submits
+pub mod Sends
+pub mod Takes
+pub mod Timers

@@ -1,0 +1,1 @@
+// What may come of each step: laws alone, under specs/ and proofs/.
