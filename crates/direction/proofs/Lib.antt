@@ -1,0 +1,13 @@
+pub mod Parts
+pub mod Waits
+pub mod Bounds
+pub mod Start
+pub mod Submitting
+pub mod Sending
+pub mod Arriving
+pub mod Answering
+pub mod Limits
+pub mod Hearing
+pub mod Taking
+pub mod Shaped
+pub mod Whole
