@@ -1,0 +1,15 @@
+pub mod Fresh
+pub mod NoGap
+pub mod Said
+pub mod Told
+pub mod Raised
+pub mod Shown
+pub mod Calm
+pub mod Burden
+pub mod Lightens
+pub mod Most
+pub mod Live
+pub mod CaughtUp
+pub mod Eligible
+pub mod Untaken
+pub mod Counts

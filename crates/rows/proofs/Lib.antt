@@ -1,0 +1,5 @@
+pub mod Times
+pub mod Outcomes
+pub mod Refused
+pub mod After
+pub mod Rows
