@@ -19,7 +19,7 @@ use Rattle.receiver.specs.Receiver.{inboxAt}
 use Rattle.ends.specs.declared.End.{End}
 use Rattle.ends.specs.declared.Stepped.{Stepped}
 use Rattle.script.specs.declared.Step.{Step}
-use Rattle.script.specs.Step.{isTake, inForm}
+use Rattle.script.specs.Step.{isTake, formed}
 use Rattle.pairs.specs.declared.Pair.{Pair}
 use Rattle.pairs.specs.declared.Done.{Done}
 use Rattle.pairs.specs.Pairs.{endAt, byEnd}
@@ -50,7 +50,7 @@ take-detail p t take =
     let is = eqb-true (t .step) 6 take in
     by-test Says (not (pairInShape p)) (λ e z. absurd (omega arith))
     (λ e. by-test Says (ltb 1 (t .end)) (λ f z. absurd (omega arith))
-    (λ f. by-test Says (not (inForm t)) (λ g z. absurd (omega arith)) (λ g. rw (← takes p t is, is) (handed-detail (take-view (endAt p (t .end)) (t .class) (t .kind))))))
+    (λ f. by-test Says (not (formed t)) (λ g z. absurd (omega arith)) (λ g. rw (← takes p t is, is) (handed-detail (take-view (endAt p (t .end)) (t .class) (t .kind))))))
   where
     Says : Done → Type 0
     Says d = d .answer ≡ 0 → d .detail ≡ about p t .ident

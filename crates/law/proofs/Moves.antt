@@ -27,7 +27,7 @@ use Rattle.ends.specs.declared.Stepped.{Stepped}
 use Rattle.ends.specs.declared.Sent.{Sent}
 use Rattle.ends.specs.Ends.{endOf, arriveOf}
 use Rattle.ends.specs.Sends.{sendOf}
-use Rattle.script.specs.Step.{inForm, fieldsFit}
+use Rattle.script.specs.Step.{formBy, formed, fieldsFit}
 use Rattle.pairs.specs.declared.Pair.{Pair}
 use Rattle.pairs.specs.declared.Done.{Done}
 use Rattle.pairs.specs.Pairs.{pair, done, endAt, lineAt, other, carried, sendAt, reached, onFront, reachAt}
@@ -66,12 +66,12 @@ pub record View (near far : Setup) (a u b v : List Packet) (n m : ℕ) (p : Pair
   pub turn : Turn n m near far out back (endAt p i) (endAt p (other i)) (lineAt p i) (lineAt p (other i))
 
 -- Send and Arrive have no use for the other fields, so they are in form
-pub form-2 : (i : ℕ) → i < 2 → inForm (plain 2 i) ≡ true
-unfolding inForm fieldsFit
+pub form-2 : (i : ℕ) → i < 2 → formed (plain 2 i) ≡ true
+unfolding formBy fieldsFit
 form-2 i h = rw (le-leb i 1 (omega arith))
 
-form-3 : (i : ℕ) → i < 2 → inForm (plain 3 i) ≡ true
-unfolding inForm fieldsFit
+form-3 : (i : ℕ) → i < 2 → formed (plain 3 i) ≡ true
+unfolding formBy fieldsFit
 form-3 i h = rw (le-leb i 1 (omega arith))
 
 module _ {near far : Setup} {a u b v : List Packet} {n m : ℕ} {p : Pair} where
@@ -95,7 +95,7 @@ module _ {near far : Setup} {a u b v : List Packet} {n m : ℕ} {p : Pair} where
 
   -- ---- a plain step of it is that step: neither 10 nor 11 nor 6
 
-  pub plain-step : (step i : ℕ) → i < 2 → inForm (plain step i) ≡ true → View near far a u b v n m p i → stepOf p (plain step i) ≡ act p (plain step i)
+  pub plain-step : (step i : ℕ) → i < 2 → formed (plain step i) ≡ true → View near far a u b v n m p i → stepOf p (plain step i) ≡ act p (plain step i)
   unfolding stepOf
   plain-step step i h form w = rw (seen-shape i h (view-seen w), le-ltb 1 i (omega arith), form)
 

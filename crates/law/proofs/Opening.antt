@@ -27,7 +27,7 @@ use Rattle.receiver.specs.declared.Receiver.{Receiver}
 use Rattle.receiver.specs.Receiver as R
 use Rattle.ends.specs.declared.End.{End}
 use Rattle.ends.specs.Ends.{end, endOf, timerOf, refreshOf}
-use Rattle.script.specs.Step.{inForm, fieldsFit}
+use Rattle.script.specs.Step.{formBy, formed, fieldsFit}
 use Rattle.pairs.specs.declared.Pair.{Pair}
 use Rattle.pairs.specs.declared.Done.{Done}
 use Rattle.pairs.specs.Pairs.{pair, endAt, lineAt, other, byEnd}
@@ -82,17 +82,17 @@ module _ {near far : Setup} {out back : Past} {me it : End} {to from : Line} (b 
 
 -- ---- in the pair
 
-plain-act : {near far : Setup} {out back : Past} {p : Pair} (step i : ℕ) → i < 2 → inForm (plain step i) ≡ true → Seen near far out back p i
+plain-act : {near far : Setup} {out back : Past} {p : Pair} (step i : ℕ) → i < 2 → formed (plain step i) ≡ true → Seen near far out back p i
     → stepOf p (plain step i) ≡ act p (plain step i)
 unfolding stepOf
 plain-act step i h form v = rw (seen-shape i h v, le-ltb 1 i (omega arith), form)
 
-form-7 : (i : ℕ) → i < 2 → inForm (plain 7 i) ≡ true
-unfolding inForm fieldsFit
+form-7 : (i : ℕ) → i < 2 → formed (plain 7 i) ≡ true
+unfolding formBy fieldsFit
 form-7 i h = rw (le-leb i 1 (omega arith))
 
-form-8 : (i : ℕ) → i < 2 → inForm (plain 8 i) ≡ true
-unfolding inForm fieldsFit
+form-8 : (i : ℕ) → i < 2 → formed (plain 8 i) ≡ true
+unfolding formBy fieldsFit
 form-8 i h = rw (le-leb i 1 (omega arith))
 
 -- the pair with another end i

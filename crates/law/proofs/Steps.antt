@@ -22,7 +22,7 @@ use Rattle.ends.specs.declared.Stepped.{Stepped}
 use Rattle.ends.specs.declared.Sent.{Sent}
 use Rattle.ends.specs.Ends.{timerOf, refreshOf}
 use Rattle.script.specs.declared.Step.{Step}
-use Rattle.script.specs.Step.{isSubmit, isTake, inForm}
+use Rattle.script.specs.Step.{isSubmit, isTake, formed}
 use Rattle.pairs.specs.declared.Pair.{Pair}
 use Rattle.pairs.specs.declared.Done.{Done}
 use Rattle.pairs.specs.Pairs.{pair, done, endAt, lineAt, other, byEnd, carried, sendAt, reached, onFront, reachAt, loseAt}
@@ -219,4 +219,4 @@ module _ {near far : Setup} {out back : Past} {p : Pair} (t : Step) (h : t .end 
   unfolding stepOf
   step-does shape =
       rw (shape, le-ltb 1 (t .end) (omega arith))
-      (by-test (λ d. Does (about p t) d) (not (inForm t)) (λ e. fails-by (about p t) (done p 6 0) out-of-form refl same) (λ e. act-does))
+      (by-test (λ d. Does (about p t) d) (not (formed t)) (λ e. fails-by (about p t) (done p 6 0) out-of-form refl same) (λ e. act-does))

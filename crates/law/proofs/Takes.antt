@@ -37,7 +37,7 @@ use Rattle.receipts.proofs.Changes.{held-handed, inbox-handed-other}
 use Rattle.ends.specs.declared.End.{End}
 use Rattle.ends.specs.declared.Stepped.{Stepped}
 use Rattle.ends.specs.Ends.{end, endOf, takeAt}
-use Rattle.script.specs.Step.{inForm, fieldsFit}
+use Rattle.script.specs.Step.{formBy, formed, fieldsFit}
 use Rattle.pairs.specs.declared.Pair.{Pair}
 use Rattle.pairs.specs.Pairs.{pair, endAt, other, byEnd}
 use Rattle.pairs.specs.Steps.{pairInShape, stepOf}
@@ -128,10 +128,10 @@ pub record Taken (near far : Setup) (out back : Past) (p : Pair) (i channel : �
   pub elsewhere : (k : ℕ) → k ≢ channel → inboxAt (endAt p′ i .receiver) k ≡ inboxAt (endAt p i .receiver) k
   pub aside : Aside p i p′
 
-take-form : (i channel : ℕ) (c : Category) → i < 2 → channel < channels → inForm (takeStep i channel (numberOf c)) ≡ true
-unfolding inForm fieldsFit
+take-form : (i channel : ℕ) (c : Category) → i < 2 → channel < channels → formed (takeStep i channel (numberOf c)) ≡ true
+unfolding formBy fieldsFit
 take-form i channel c h here =
-    rw (le-leb i 1 (omega arith), le-leb channel 255 (omega arith), le-leb (numberOf c) 255 (omega (arith, number-below c)))
+    rw (le-leb i 1 (omega arith), le-leb channel 4294967295 (omega arith), le-leb (numberOf c) 4294967295 (omega (arith, number-below c)))
 
 -- the packet at its place leaves: the oldest of category c
 module _ {near far : Setup} {out back : Past} {p : Pair} {i : ℕ} (h : i < 2) (v : Seen near far out back p i) (channel place : ℕ) (c : Category)

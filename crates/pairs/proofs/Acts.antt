@@ -1,28 +1,14 @@
--- The eight steps by their numbers, and a step in form as the numbers that its bytes hold.
+-- The eight steps by their numbers.
 -- Assumes nothing.
-use Prim.Native.Nat.{ℕ, _%_}
+use Prim.Native.Nat.{ℕ}
 use mathlib.Core.Path.{_≡_}
-use mathlib.Core.Bool.{true}
-use native.Mathlib.Nat.{mod-eq-of-lt}
 use borrow.Author.Tests.{ne-eqb}
 use Rattle.basics.specs.Choice.{if_then_else_}
 use Rattle.script.specs.declared.Step.{Step}
-use Rattle.script.specs.Step.{inForm}
-use Rattle.script.proofs.Form.{form-fits}
 use Rattle.ends.specs.Ends.{submitOf, arriveOf, damageOf, takeAt, timerOf, refreshOf}
 use Rattle.pairs.specs.declared.Pair.{Pair}
 use Rattle.pairs.specs.Pairs.{endAt, byEnd, sendAt, reachAt, loseAt}
 use Rattle.pairs.specs.Steps.{packetOf, act}
-
-module _ (t : Step) (form : inForm t ≡ true) where
-  pub class-small : t .class % 256 ≡ t .class
-  class-small = mod-eq-of-lt (form-fits t form .class)
-
-  pub kind-small : t .kind % 256 ≡ t .kind
-  kind-small = mod-eq-of-lt (form-fits t form .kind)
-
-  pub length-small : t .length % 65536 ≡ t .length
-  length-small = mod-eq-of-lt (form-fits t form .length)
 
 module _ (p : Pair) (t : Step) where
   pub submits : t .step ≡ 1 → byEnd p (t .end) (submitOf (endAt p (t .end)) (packetOf t)) ≡ act p t

@@ -12,7 +12,7 @@ use Rattle.line.specs.declared.Line.{Line}
 use Rattle.line.specs.declared.Slot.{Slot}
 use Rattle.line.specs.Line.{capacity, onLine}
 use Rattle.script.specs.declared.Step.{Step}
-use Rattle.script.specs.Step.{inForm}
+use Rattle.script.specs.Step.{formed}
 use Rattle.ends.specs.declared.End.{End}
 use Rattle.ends.specs.Ends.{submitOf, arriveOf, damageOf, takeAt, timerOf, refreshOf}
 use Rattle.shape.specs.Shape.{inShape}
@@ -25,7 +25,7 @@ abbrev pub packetOf : Step → Packet
 packetOf t = record { kind = t .kind; class = t .class; length = t .length; ident = t .ident }
 
 -- 1 Submit, 2 Send, 3 Arrive, 4 Damage, 5 Lose, 6 Take, 7 Timer, 8 Refresh;
--- for Take, class is the channel and kind the category; a step in form has no other number
+-- for Take, class is the channel and kind the category; a step in form has no other step number
 unfoldable pub act : Pair → Step → Done
 act p t =
     if eqb (t .step) 1 then byEnd p (t .end) (submitOf (endAt p (t .end)) (packetOf t))
@@ -57,5 +57,5 @@ unfoldable pub stepOf : Pair → Step → Done
 stepOf p t =
     if not (pairInShape p) then done p 10 0
     else if ltb 1 (t .end) then done p 11 0
-    else if not (inForm t) then done p 6 0
+    else if not (formed t) then done p 6 0
     else act p t

@@ -18,10 +18,9 @@ ghost use Prim.Native.Nat.{_≤_, _<_};
 ghost use lib.ListN.{getD, length};
 ghost use Rattle.line.specs.Line.{onLine};
 ghost use Rattle.setup.specs.Setup.{slots, noUnits};
-ghost use mathlib.Core.Bool.{true};
-ghost use Rattle.script.specs.Step.{inForm};
 ghost use Rattle.ends.specs.Ends.{arriveOf, damageOf};
-ghost use Rattle.pairs.specs.Steps.{packetOf, act, slotFits, lineFits, pairInShape, stepOf};
+ghost use Rattle.pairs.specs.Capped.{capped, cappedPacket};
+ghost use Rattle.pairs.specs.Steps.{act, slotFits, lineFits, pairInShape, stepOf};
 ghost use Rattle.pairs.specs.Pairs.{done, endAt, lineAt, turned, swapped, pairOf, startOf, byEnd, sendAt, reached, reachAt, loseAt};
 
 pub struct Pair {
@@ -77,14 +76,23 @@ fn swapped(link: Setup) -> Setup
 }
 
 // The packet of a Submit that is in form: each number fits its bytes.
-fn packet_of(t: Step) -> Packet
-    requires { ⌜ inForm t ≡ true ⌝ }
-    ensures { λ r. ⌜ r ≡ packetOf t ⌝ }
+// A number, or the largest that its type holds: what is over that is refused like it.
+fn capped(most: u32, x: u32) -> u32
+    ensures { λ r. ⌜ (r ≡ capped most x) × (r ≤ most) ⌝ }
 {
+    if x <= most { x } else { most }
+}
+
+fn packet_of(t: Step) -> Packet
+    ensures { λ r. ⌜ r ≡ cappedPacket t ⌝ }
+{
+    let kind = capped(255, t.kind);
+    let class = capped(255, t.class);
+    let length = capped(65535, t.length);
     Packet {
-        kind: (t.kind % 256) as u8,
-        class: (t.class % 256) as u8,
-        length: (t.length % 65536) as u16,
+        kind: kind as u8,
+        class: class as u8,
+        length: length as u16,
         ident: t.ident,
     }
 }
@@ -270,7 +278,7 @@ impl Pair {
 
     // The step, of an end there is, in form.
     fn act(self, t: Step) -> Done
-        requires { ⌜ (t .end ≤ 1) × (inForm t ≡ true) ⌝ }
+        requires { ⌜ t .end ≤ 1 ⌝ }
         ensures { λ r. ⌜ r ≡ act self t ⌝ }
     {
         let i = t.end as usize;
@@ -291,7 +299,9 @@ impl Pair {
             return self.lose_at(i);
         }
         if t.step == 6 {
-            return self.by_end(i, e.take((t.class % 256) as u8, (t.kind % 256) as u8));
+            let channel = capped(255, t.class);
+            let category = capped(255, t.kind);
+            return self.by_end(i, e.take(channel as u8, category as u8));
         }
         if t.step == 7 {
             return self.by_end(i, e.timer());
@@ -322,7 +332,7 @@ impl Pair {
         if 1 < t.end {
             return self.refused(11);
         }
-        if !script::in_form(t) {
+        if !script::formed(t) {
             return self.refused(6);
         }
         self.act(t)

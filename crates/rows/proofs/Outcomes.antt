@@ -22,7 +22,7 @@ use Rattle.ends.specs.declared.Sent.{Sent}
 use Rattle.ends.specs.Ends.{endOf, stepped, arriveOf, damageOf, timerOf, refreshOf}
 use Rattle.ends.specs.Sends.{sendOf}
 use Rattle.script.specs.declared.Step.{Step}
-use Rattle.script.specs.Step.{inForm}
+use Rattle.script.specs.Step.{formed}
 use Rattle.pairs.specs.declared.Pair.{Pair}
 use Rattle.pairs.specs.declared.Done.{Done}
 use Rattle.pairs.specs.Pairs.{done, endAt, lineAt, other, byEnd, carried, sendAt, reached, onFront, reachAt, loseAt}
@@ -125,4 +125,4 @@ module _ (p : Pair) where
     step-outcome =
         by-test (Outcome p) (not (pairInShape p)) (λ e. refused 10 (λ z. omega arith))
         (λ e. by-test (Outcome p) (ltb 1 i) (λ e. refused 11 (λ z. omega arith))
-        (λ e. by-test (Outcome p) (not (inForm t)) (λ e. refused 6 (λ z. omega arith)) (λ e. act-outcome)))
+        (λ e. by-test (Outcome p) (not (formed t)) (λ e. refused 6 (λ z. omega arith)) (λ e. act-outcome)))

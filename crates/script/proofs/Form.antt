@@ -10,7 +10,7 @@ use borrow.Author.Tests.{leb-true}
 use Rattle.basics.proofs.Branches.{and-left, and-right}
 use Rattle.setup.specs.Setup.{within}
 use Rattle.script.specs.Script.{trailerBytes}
-use Rattle.script.specs.Step.{FitsBytes, fieldsFit, inForm, isSubmit, isTake, numbersOf, recordBytes, room}
+use Rattle.script.specs.Step.{FitsBytes, fieldsFit, formBy, inForm, isSubmit, isTake, numbersOf, recordBytes, room}
 use Rattle.script.specs.declared.Step.{Step}
 
 pub twelve-bytes : (t : Step) → length (recordBytes t) ≡ 12
@@ -32,13 +32,13 @@ at-most x false most h = let z : x ≤ 0 = leb-true x 0 h in omega arith
 
 module _ (t : Step) (ok : inForm t ≡ true) where
   step-fits : t .step ≤ 8
-  unfolding inForm
+  unfolding formBy
   step-fits =
-      leb-true (t .step) 8 (and-right (leb 1 (t .step)) (leb (t .step) 8) (and-left (within 1 8 (t .step)) (leb (t .end) 1 && fieldsFit t) ok))
+      leb-true (t .step) 8 (and-right (leb 1 (t .step)) (leb (t .step) 8) (and-left (within 1 8 (t .step)) (leb (t .end) 1 && fieldsFit 255 65535 t) ok))
 
-  rest : (leb (t .end) 1 && fieldsFit t) ≡ true
-  unfolding inForm
-  rest = and-right (within 1 8 (t .step)) (leb (t .end) 1 && fieldsFit t) ok
+  rest : (leb (t .end) 1 && fieldsFit 255 65535 t) ≡ true
+  unfolding formBy
+  rest = and-right (within 1 8 (t .step)) (leb (t .end) 1 && fieldsFit 255 65535 t) ok
 
   abbrev one : ℕ
   one = room (isSubmit (t .step) || isTake (t .step)) 255
@@ -48,7 +48,7 @@ module _ (t : Step) (ok : inForm t ≡ true) where
 
   fields : (leb (t .class) one && (leb (t .kind) one && packet)) ≡ true
   unfolding fieldsFit
-  fields = and-right (leb (t .end) 1) (fieldsFit t) rest
+  fields = and-right (leb (t .end) 1) (fieldsFit 255 65535 t) rest
 
   later : (leb (t .kind) one && packet) ≡ true
   later = and-right (leb (t .class) one) (leb (t .kind) one && packet) fields
@@ -56,7 +56,7 @@ module _ (t : Step) (ok : inForm t ≡ true) where
   pub form-fits : FitsBytes t
   form-fits =
       let s = step-fits in
-      let e = leb-true (t .end) 1 (and-left (leb (t .end) 1) (fieldsFit t) rest) in
+      let e = leb-true (t .end) 1 (and-left (leb (t .end) 1) (fieldsFit 255 65535 t) rest) in
       let c = at-most (t .class) (isSubmit (t .step) || isTake (t .step)) 255 (and-left (leb (t .class) one) (leb (t .kind) one && packet) fields) in
       let k = at-most (t .kind) (isSubmit (t .step) || isTake (t .step)) 255 (and-left (leb (t .kind) one) packet later) in
       let l = at-most (t .length) (isSubmit (t .step)) 65535

@@ -20,20 +20,28 @@ isSubmit step = eqb step 1
 abbrev pub isTake : ℕ → Bool
 isTake step = eqb step 6
 
--- the most that a field can hold: what its bytes hold, or zero where the step has no use for it
+-- the most that a field can hold: `most` where the step uses it, zero where it has no use for it
 abbrev pub room : Bool → ℕ → ℕ
 room used most = if used then most else 0
 
--- one byte for class or channel, one for kind or category, two for the length, four for the ident
-unfoldable pub fieldsFit : Step → Bool
-fieldsFit t =
-    leb (t .class) (room (isSubmit (t .step) || isTake (t .step)) 255)
-    && (leb (t .kind) (room (isSubmit (t .step) || isTake (t .step)) 255)
-    && (leb (t .length) (room (isSubmit (t .step)) 65535)
+-- zeros in place, and where a field is used, at most `one` in class or channel and in kind or category, at most `two` in the length
+unfoldable pub fieldsFit : ℕ → ℕ → Step → Bool
+fieldsFit one two t =
+    leb (t .class) (room (isSubmit (t .step) || isTake (t .step)) one)
+    && (leb (t .kind) (room (isSubmit (t .step) || isTake (t .step)) one)
+    && (leb (t .length) (room (isSubmit (t .step)) two)
     && leb (t .ident) (room (isSubmit (t .step)) 4294967295)))
 
-unfoldable pub inForm : Step → Bool
-inForm t = within 1 8 (t .step) && (leb (t .end) 1 && fieldsFit t)
+unfoldable pub formBy : ℕ → ℕ → Step → Bool
+formBy one two t = within 1 8 (t .step) && (leb (t .end) 1 && fieldsFit one two t)
+
+-- of six numbers of 32 bits: a used field may hold any of these
+abbrev pub formed : Step → Bool
+formed t = formBy 4294967295 4294967295 t
+
+-- of a record: one byte for class or channel, one for kind or category, two for the length, four for the ident
+abbrev pub inForm : Step → Bool
+inForm t = formBy 255 65535 t
 
 -- each number fits its bytes; a step in form does
 pub record FitsBytes (t : Step) : Type 0 where

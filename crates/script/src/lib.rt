@@ -12,7 +12,7 @@ ghost use lib.ListN.{length, drop};
 ghost use Rattle.basics.specs.Each.{firstNot};
 ghost use Rattle.basics.specs.Parts.{cut, joined};
 ghost use Rattle.setup.specs.Setup.{inRange};
-ghost use Rattle.script.specs.Step.{FitsBytes, fieldsFit, inForm, isSubmit, isTake, numbersOf, recordBytes, recordInForm, room, stepAt, stepOf};
+ghost use Rattle.script.specs.Step.{FitsBytes, fieldsFit, formBy, formed, inForm, isSubmit, isTake, numbersOf, recordBytes, recordInForm, room, stepAt, stepOf};
 ghost use Rattle.script.specs.Script.{agrees, bufferAfter, listAfter, mostSteps, readScript, refused, rejected, scriptBytes, scriptLength, stepsIn, trailerAt, trailerBytes, writeScript};
 
 // The most steps in a script.
@@ -73,26 +73,39 @@ fn uses_channel(step: u32) -> bool
     if step == 1 { true } else { step == 6 }
 }
 
-fn fields_fit(t: Step) -> bool
-    ensures { λ r. ⌜ r ≡ fieldsFit t ⌝ }
+fn fields_fit(one: u32, two: u32, t: Step) -> bool
+    ensures { λ r. ⌜ r ≡ fieldsFit one two t ⌝ }
 {
-    let one = room(uses_channel(t.step), 255);
+    let most = room(uses_channel(t.step), one);
     let submit = t.step == 1;
     let packet = both(
-        t.length <= room(submit, 65535),
+        t.length <= room(submit, two),
         t.ident <= room(submit, 4294967295),
     );
-    both(t.class <= one, both(t.kind <= one, packet))
+    both(t.class <= most, both(t.kind <= most, packet))
 }
 
-// Is a step in form: known, at end 0 or 1, with zeros in place?
-pub fn in_form(t: Step) -> bool
-    ensures { λ r. ⌜ r ≡ inForm t ⌝ }
+fn form_by(one: u32, two: u32, t: Step) -> bool
+    ensures { λ r. ⌜ r ≡ formBy one two t ⌝ }
 {
     both(
         both(1 <= t.step, t.step <= 8),
-        both(t.end <= 1, fields_fit(t)),
+        both(t.end <= 1, fields_fit(one, two, t)),
     )
+}
+
+// Is a step in form: known, at end 0 or 1, with zeros in place?
+pub fn formed(t: Step) -> bool
+    ensures { λ r. ⌜ r ≡ formed t ⌝ }
+{
+    form_by(4294967295, 4294967295, t)
+}
+
+// Is it in form as a record, so that each number also fits its bytes?
+pub fn in_form(t: Step) -> bool
+    ensures { λ r. ⌜ r ≡ inForm t ⌝ }
+{
+    form_by(255, 65535, t)
 }
 
 // ---- a record of 12 bytes

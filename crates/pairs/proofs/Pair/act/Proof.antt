@@ -2,8 +2,10 @@
 -- Assumes nothing.
 use borrow.Author.Needs.{needs}
 use native.Mathlib.Omega.{arith}
-use mathlib.Core.Path.{_≡_, sym, _∙_}
-use Rattle.pairs.proofs.Acts.{class-small, kind-small, submits, sends, arrives, damages, loses, takes, times, refreshes}
+use mathlib.Core.Path.{_≡_, ap, _∙_}
+use Rattle.pairs.proofs.Acts.{submits, sends, arrives, damages, loses, takes, times, refreshes}
+use Rattle.pairs.specs.Pairs.{endAt, byEnd}
+use Rattle.pairs.proofs.Caps.{submit-capped, take-capped}
 use Rattle.pairs.proofs.Pair.act.Statement.{statement}
 use Rattle.pairs.proofs.Pair.act.Tie as tie
 
@@ -12,7 +14,8 @@ returns c =
     let i = c .before .before .before in
     let e = i .before .before in
     let a = e .before .before .args in
-    simp (c .by-end .ensures, c .before .submit .ensures, c .before .before .packet-of .ensures, e .end .ensures) (submits (a .self) (a .t) (i .if1 .taken))
+    simp (c .by-end .ensures, c .before .submit .ensures, c .before .before .packet-of .ensures, e .end .ensures)
+    (ap (λ x. byEnd (a .self) (a .t .end) x) (submit-capped (a .t) (endAt (a .self) (a .t .end))) ∙ submits (a .self) (a .t) (i .if1 .taken))
 
 returns-2 : tie.Need-returns-2
 returns-2 c =
@@ -42,9 +45,9 @@ returns-6 : tie.Need-returns-6
 returns-6 c =
     let i = c .before .before .before .before in
     let e = i .before .before .before .before .before .before .before .before .before .before .before .before in
-    let s = e .before .before in
-    let t = s .args .t in
-    simp (c .by-end2 .ensures, c .before .take .ensures, e .end .ensures, class-small t (s .pre .1), kind-small t (s .pre .1)) (takes (s .args .self) t (i .if6 .taken))
+    let a = e .before .before .args in
+    simp (c .by-end2 .ensures, c .before .take .ensures, c .before .before .capped2 .ensures .0, c .before .before .before .capped .ensures .0, e .end .ensures)
+    (ap (λ x. byEnd (a .self) (a .t .end) x) (take-capped (endAt (a .self) (a .t .end)) (a .t .class) (a .t .kind)) ∙ takes (a .self) (a .t) (i .if6 .taken))
 
 returns-7 : tie.Need-returns-7
 returns-7 c =
@@ -68,4 +71,4 @@ returns-8 c =
     (refreshes (a .self) (a .t) (i1 .if1 .left) (i2 .if2 .left) (i3 .if3 .left) (i4 .if4 .left) (i5 .if5 .left) (i6 .if6 .left) (i7 .if7 .left))
 
 pub act-spec : {M : Type 1} → statement M
-act-spec = tie.close (tie.spec (λ c. search needs) (λ c κs. search needs) (λ c κs. search needs) (λ c κs. search needs) (λ c κs. search needs) returns (λ c κs. search needs) returns-2 (λ c κs. search needs) returns-3 (λ c κs. search needs) returns-4 (λ c κs. search needs) returns-5 (λ c. search needs) (λ c. search needs) (λ c κs. search needs) (λ c κs. c .before .before .before .before .before .before .before .before .before .before .before .before .before .before .before .before .before .pre .0) returns-6 (λ c κs. search needs) (λ c κs. c .before .before .before .before .before .before .before .before .before .before .before .before .before .before .before .before .before .pre .0) returns-7 (λ c κs. search needs) (λ c κs. c .before .before .before .before .before .before .before .before .before .before .before .before .before .before .before .before .before .pre .0) returns-8)
+act-spec = tie.close (tie.spec (λ c. search needs) (λ c κs. search needs) (λ c κs. search needs) (λ c κs. search needs) (λ c κs. search needs) returns (λ c κs. search needs) returns-2 (λ c κs. search needs) returns-3 (λ c κs. search needs) returns-4 (λ c κs. search needs) returns-5 (λ c κs. search needs) (λ c κs. search needs) (λ c. search needs) (λ c. search needs) (λ c κs. search needs) (λ c κs. c .before .before .before .before .before .before .before .before .before .before .before .before .before .before .before .before .before .pre) returns-6 (λ c κs. search needs) (λ c κs. c .before .before .before .before .before .before .before .before .before .before .before .before .before .before .before .before .before .pre) returns-7 (λ c κs. search needs) (λ c κs. c .before .before .before .before .before .before .before .before .before .before .before .before .before .before .before .before .before .pre) returns-8)

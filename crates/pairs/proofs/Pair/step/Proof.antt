@@ -3,7 +3,7 @@
 use borrow.Author.Needs.{needs}
 use native.Mathlib.Omega.{arith}
 use mathlib.Core.Path.{_≡_, sym, _∙_}
-use borrow.Author.Tests.{lt-ltb, le-ltb, not-false}
+use borrow.Author.Tests.{lt-ltb, le-ltb}
 use Rattle.pairs.specs.Steps.{stepOf}
 use Rattle.pairs.proofs.Pair.step.Statement.{statement}
 use Rattle.pairs.proofs.Pair.step.Tie as tie
@@ -24,10 +24,10 @@ returns-3 c =
     let f = c .before .before in
     let i = f .before .before .before in
     c .refused3 .ensures
-    ∙ simp (stepOf, ← i .before .in-shape .ensures, i .if1 .left, le-ltb _ _ (f .before .if2 .left), ← f .in-form .ensures, c .before .if3 .taken)
+    ∙ simp (stepOf, ← i .before .in-shape .ensures, i .if1 .left, le-ltb _ _ (f .before .if2 .left), ← f .formed .ensures, c .before .if3 .taken)
 
 act-requires : tie.Need-act-requires
-act-requires c κs = (c .before .before .if2 .left, sym (c .before .in-form .ensures) ∙ not-false _ (c .if3 .left))
+act-requires c κs = c .before .before .if2 .left
 
 returns-4 : tie.Need-returns-4
 unfolding stepOf
@@ -35,7 +35,7 @@ returns-4 c =
     let f = c .before .before in
     let i = f .before .before .before in
     c .act .ensures
-    ∙ simp (stepOf, ← i .before .in-shape .ensures, i .if1 .left, le-ltb _ _ (f .before .if2 .left), ← f .in-form .ensures, c .before .if3 .left)
+    ∙ simp (stepOf, ← i .before .in-shape .ensures, i .if1 .left, le-ltb _ _ (f .before .if2 .left), ← f .formed .ensures, c .before .if3 .left)
 
 pub step-spec : {M : Type 1} → statement M
 step-spec = tie.close (tie.spec (λ c κs. search needs) (λ c κs. search needs) returns (λ c κs. search needs) returns-2 (λ c κs. search needs) (λ c κs. search needs) returns-3 act-requires returns-4)
