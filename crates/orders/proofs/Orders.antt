@@ -9,9 +9,9 @@ use native.Mathlib.Omega.{arith}
 use native.Mathlib.Numerals.{add-one}
 use lib.ListN.{length, getD, take, drop}
 use lib.Seq.{split-at}
-use Rattle.basics.specs.Choice.{if_then_else_}
 use Rattle.basics.specs.Lists.{all}
 use Rattle.basics.proofs.Filters.{filter-append, filter-none}
+use Rattle.basics.specs.Choice.{if_then_else_}
 use Rattle.packets.specs.declared.Packet.{Packet}
 use Rattle.packets.specs.declared.Category.{Category}
 use Rattle.packets.specs.declared.Category.the-variants.{Posted, NonPosted, Completion}
@@ -59,10 +59,6 @@ pub orders-leave : {from out waiting : List Packet} (i : ℕ) → i < length wai
 orders-leave {from} {out} {waiting} i here own free o =
     let cut : waiting ≡ take i waiting ++ getD waiting i noPacket ∷ drop (i + 1) waiting = rw (add-one i) (split-at waiting i noPacket here) in
     leave-between (take i waiting) (drop (i + 1) waiting) (getD waiting i noPacket) own free (subst (Orders from out) cut o)
-
--- nothing waits: all has left
-pub orders-empty : {from out : List Packet} → Orders from out [] → (c : Category) → ofCategory c out ≡ ofCategory c from
-orders-empty {from} {out} o c = sym (append-nil (ofCategory c out)) ∙ o .same c
 
 -- one that is not posted and has left, has left after every posted one that entered before it
 posted-before : {from out waiting : List Packet} → Orders from out waiting → (older younger : List Packet) (q : Packet)

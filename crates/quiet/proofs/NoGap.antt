@@ -11,36 +11,33 @@ use borrow.Author.Tests.{ltb-false, leb-true, eqb-true}
 use lib.Dec.{leb, ltb, eqb}
 use lib.ListN.{length, getD, length-append}
 use lib.Seq.{getD-drop, getD-append-seam}
-use Rattle.basics.specs.Choice.{if_then_else_}
 use Rattle.basics.specs.declared.Found.{Found}
 use Rattle.basics.specs.declared.Found.the-variants.{At, Nothing}
 use Rattle.basics.proofs.Branches.{by-test}
+use Rattle.basics.specs.Choice.{if_then_else_}
 use Rattle.counters.specs.declared.Seq.{Seq}
 use Rattle.counters.specs.Wrapped.{plus}
 use Rattle.counters.specs.Counters.{seq, nextOf, afterOf}
 use Rattle.counters.proofs.Wrap.{minus-ahead}
 use Rattle.packets.specs.declared.Packet.{Packet}
-use Rattle.credits.specs.declared.Credit.{Credit}
 use Rattle.frames.specs.declared.Frame.the-variants as Frame
-use Rattle.frames.specs.declared.Message.{Message}
 use Rattle.store.specs.Store.{capacity, at, noPacket}
 use Rattle.line.specs.declared.Slot.{Slot}
 use Rattle.line.specs.Line.{slot}
 use Rattle.setup.specs.declared.Setup.{Setup}
 use Rattle.setup.specs.Setup.{inRange}
 use Rattle.sender.specs.declared.Sender.{Sender}
-use Rattle.sender.specs.Sender.{withCredit, withReplay, begun}
+use Rattle.sender.specs.Sender.{withReplay, begun}
 use Rattle.sender.specs.Sources.{placeAfter, replayFrame, replayed, newPacket, newFrame, sentNew}
 use Rattle.sender.proofs.Changes.{begun-at, replay-sent}
 use Rattle.hearing.specs.Hearing.{releases, moved, acknowledged, again}
 use Rattle.hearing.proofs.Heard.{len-acknowledged}
 use Rattle.receiver.specs.declared.Receiver.{Receiver}
-use Rattle.amounts.specs.Amounts.{Amount}
-use Rattle.traffic.specs.Traffic.{aPacket, aMessage, upTo}
-use Rattle.direction.specs.Direction.{Past, sendingOne, gettingOne, acking, limiting, Direction}
+use Rattle.traffic.specs.Traffic.{aPacket, upTo}
+use Rattle.direction.specs.Direction.{Past, sendingOne, gettingOne, acking, Direction}
 use Rattle.direction.proofs.Arriving.{o}
 use Rattle.quiet.specs.Quiet.{upcoming, Fresh}
-use Rattle.quiet.proofs.Fresh.{fresh-open, fresh-next, fresh-lower, fresh-raise, fresh-grow, fresh-sent, fresh-other, fresh-message-gone, old-oldest, fresh-oldest, fresh-empty}
+use Rattle.quiet.proofs.Fresh.{fresh-open, fresh-next, fresh-lower, fresh-raise, fresh-grow, fresh-sent, old-oldest, fresh-oldest, fresh-empty}
 
 -- the number of the next packet that the sender will send
 abbrev pub nextIn : Past → Sender → ℕ
@@ -96,18 +93,6 @@ module _ {link : Setup} {g : Past} {s : Sender} {forth back : List Slot} {r : Re
       let packet : at (s .buffer) j ≡ getD (g .sent) (g .acked + j) noPacket = rw (i .sending .buffer-is) (getD-drop (g .acked) (g .sent) j noPacket) in
       let below : g .acked + j < length (g .sent) = omega (arith, i .sending .buffer-len, i .numbers) in
       rw (number, packet, next-after j inside) (fresh-sent (g .acked + j) below (omega (arith, i .numbers)) (i .numbers .mid) (rw e at f))
-
--- ---- a link message of the other direction, onto the line and off it; an update that the sender hears
-
-module _ {n : ℕ} (g : Past) (s : Sender) {forth : List Slot} where
-  pub passed-fresh : (m : Message) → NoGap n g s forth → NoGap n g s (forth ++ (aMessage m ∷ []))
-  passed-fresh m f = fresh-other m f
-
-  pub message-fresh : {m : Message} → NoGap n g s (aMessage m ∷ forth) → NoGap (pred n) g s forth
-  message-fresh f = fresh-message-gone f
-
-  pub limited-fresh : (k : ℕ) (x : Amount) (c : Credit) → NoGap n g s forth → NoGap n (limiting g k x) (withCredit s k c) forth
-  limited-fresh k x c f = f
 
 -- ---- a packet arrives whole, by its true number t: the next, before it or after it
 

@@ -15,8 +15,8 @@ use Rattle.setup.specs.declared.Setup.{Setup}
 use Rattle.setup.specs.Setup.{channels, per-end, slots}
 use Rattle.receiver.specs.declared.Receiver.{Receiver}
 use Rattle.receiver.specs.declared.Reply.{Reply}
-use Rattle.receiver.specs.Receiver.{startOf, inboxAt, withReply, cleared, told, refreshed}
-use Rattle.delivery.specs.Delivery.{stored, damaged, handedOut}
+use Rattle.receiver.specs.Receiver.{startOf, inboxAt, withReply, told, refreshed}
+use Rattle.delivery.specs.Delivery.{stored, handedOut}
 
 pub record Arrays (r : Receiver) : Type 0 where
   pub inboxes-are : length (r .inboxes) ≡ channels
@@ -42,14 +42,6 @@ module _ (r : Receiver) (a : Arrays r) where
 
   pub arrays-reply : (x : Reply) → Arrays (withReply r x)
   arrays-reply x = record { inboxes-are = a .inboxes-are; rooms-are = a .rooms-are; inbox-is = a .inbox-is }
-
-  pub arrays-cleared : Arrays (cleared r)
-  unfolding cleared
-  arrays-cleared = arrays-reply _
-
-  pub arrays-damaged : Arrays (damaged r)
-  unfolding damaged
-  arrays-damaged = arrays-reply _
 
   pub arrays-told : (slot : ℕ) → Arrays (told r slot)
   unfolding told

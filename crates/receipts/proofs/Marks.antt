@@ -29,14 +29,6 @@ use Rattle.receipts.proofs.Arrays.{Arrays}
 -- ---- an update goes out: its mark is cleared, and all else stays
 
 module _ (r : Receiver) (slot : ℕ) where
-  pub inboxes-told : told r slot .inboxes ≡ r .inboxes
-  unfolding told
-  inboxes-told = refl
-
-  pub reply-told : told r slot .reply ≡ r .reply
-  unfolding told
-  reply-told = refl
-
   pub room-told : Arrays r → slot < per-end → roomAt (told r slot) slot ≡ unmarked (roomAt r slot)
   unfolding told
   room-told a h = getD-set-same (r .rooms) slot _ (roomOf none) (omega (arith, a .rooms-are))
@@ -48,14 +40,6 @@ module _ (r : Receiver) (slot : ℕ) where
 -- ---- Refresh: the rooms of the channels in use are marked, and all else stays
 
 module _ (r : Receiver) (n : ℕ) where
-  pub inboxes-refreshed : refreshed r n .inboxes ≡ r .inboxes
-  unfolding refreshed
-  inboxes-refreshed = refl
-
-  pub reply-refreshed : refreshed r n .reply ≡ r .reply
-  unfolding refreshed
-  reply-refreshed = refl
-
   module _ (a : Arrays r) (fits : 3 * n ≤ per-end) (slot : ℕ) where
     marked-part : length (map marked (take (3 * n) (r .rooms))) ≡ 3 * n
     marked-part = length-made marked (r .rooms) (3 * n) (omega (arith, a .rooms-are))

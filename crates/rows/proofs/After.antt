@@ -29,6 +29,3 @@ two-by (does ends lines) two = (ends ∙ two .0, lines ∙ two .1)
 
 pub step-two : (p : Pair) (t : Step) → Two p → Two (stepOf p t .pair)
 step-two p t two = two-by (step-outcome p t) two
-
-pub after-two : (p : Pair) (ts : List Step) → Two p → Two (after p ts)
-after-two p ts two = after-keeps Two step-two p ts two
