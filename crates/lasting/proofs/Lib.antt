@@ -1,0 +1,4 @@
+pub mod Sending
+pub mod SendingSteps
+pub mod Receiving
+pub mod ReceivingSteps
