@@ -2,3 +2,4 @@ pub mod Sending
 pub mod SendingSteps
 pub mod Receiving
 pub mod ReceivingSteps
+pub mod Ends
