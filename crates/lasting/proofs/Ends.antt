@@ -2,12 +2,11 @@
 -- The arrays of both halves have their lengths, as every value of the code has. Assumes nothing else.
 use Prim.Native.Nat.{ℕ}
 use mathlib.Core.Path.{_≡_, refl}
-use mathlib.Core.Bool.{Bool, true, _&&_}
+use mathlib.Core.Bool.{true, _&&_}
 use borrow.Author.Tests.{eqb-true, le-leb}
-use lib.Dec.{leb, ltb, eqb}
+use lib.Dec.{leb, eqb}
 use Rattle.basics.specs.Each.{each}
 use Rattle.basics.proofs.Branches.{by-test, and-left, and-right}
-use Rattle.counters.specs.declared.Seq.{Seq}
 use Rattle.packets.specs.declared.Packet.{Packet}
 use Rattle.packets.specs.Packets.{packetAnswer}
 use Rattle.frames.specs.declared.Frame.{Frame}
@@ -17,7 +16,6 @@ use Rattle.frames.specs.Frames.{frameAnswer, numberInRange}
 use Rattle.frames.proofs.Range.{answered}
 use Rattle.line.specs.declared.Front.{Front}
 use Rattle.line.specs.declared.Front.the-variants as Front
-use Rattle.setup.specs.declared.Setup.{Setup}
 use Rattle.setup.specs.Setup.{channels, inRange}
 use Rattle.sender.specs.declared.Sender.{Sender}
 use Rattle.sender.specs.Sender.{queueAt}
@@ -32,7 +30,7 @@ use Rattle.ends.specs.declared.Sent.{Sent}
 use Rattle.ends.specs.Ends.{end, heard, submitOf, arriveOf, damageOf, takeAt, timerOf, refreshOf}
 use Rattle.ends.specs.Sends.{sendOf}
 use Rattle.shape.specs.Shape.{queueBound, inboxBound, withinBounds, allOn, inPlace, allFormed, framesFit, sentFit, receivedFit, numbersFit, inShape}
-use Rattle.shape.proofs.Rules.{Kept, in-shape-parts, in-shape-whole}
+use Rattle.shape.proofs.Rules.{in-shape-parts, in-shape-whole}
 use Rattle.views.specs.Views.{Submits, not-accepted, joins, Sends, a-nak, an-ack, an-update, a-replay, a-new, nothing}
 use Rattle.views.proofs.Submits.{submit-view}
 use Rattle.views.proofs.Sends.{send-view}

@@ -3,3 +3,4 @@ pub mod SendingSteps
 pub mod Receiving
 pub mod ReceivingSteps
 pub mod Ends
+pub mod Pairs

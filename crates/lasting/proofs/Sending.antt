@@ -1,6 +1,6 @@
 -- The sending half's part of the shape of an end: its rules one by one.
 -- The arrays have their lengths (`Arrays`), as every value of the code has. Assumes nothing else.
-use Prim.Native.Nat.{ℕ, _+_, _-_, _%_, _<_, _≤_}
+use Prim.Native.Nat.{ℕ, _+_, _%_, _<_, _≤_}
 use mathlib.Core.Path.{_≡_, refl}
 use mathlib.Core.Bool.{Bool, true, _&&_}
 use native.Mathlib.Omega.{arith}
@@ -55,7 +55,6 @@ pub record SendingKept (link : Setup) (s : Sender) : Type 0 where
   pub count-fits : s .replay .count ≤ 3
   pub run : (s .acked .0 + 1 + s .buffer .len) % seq-range ≡ s .next .0
   pub replay-in : (i : ℕ) → s .replay .at ≡ At i → i < s .buffer .len
-
 
 -- ---- from the rules of the shape
 
