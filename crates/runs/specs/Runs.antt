@@ -1,10 +1,10 @@
 -- A run of steps over a pair, in order, with the packets accepted and taken at each end.
 -- Assumes nothing.
-use Prim.Native.Nat.{ℕ, _*_, _/_}
+use Prim.Native.Nat.{ℕ, _+_, _*_, _/_}
 use mathlib.Core.Bool.{Bool, _&&_, not}
-use mathlib.Core.List.{List, [], _∷_}
+use mathlib.Core.List.{List, [], _∷_, _++_}
 use lib.Dec.{ltb, eqb}
-use lib.ListN.{length, getD, set}
+use lib.ListN.{length, getD, set, take, drop}
 use Rattle.basics.specs.Choice.{if_then_else_}
 use Rattle.basics.specs.Parts.{part}
 use Rattle.counters.specs.Wrapped.{plus}
@@ -48,3 +48,18 @@ advanceOf r t =
 unfoldable pub runOf : Run → List Step → Run
 runOf r [] = r
 runOf r (t ∷ ts) = runOf (advanceOf r t .run) ts
+
+-- answer, then detail, of each step in its order
+unfoldable pub answersOf : Run → List Step → List ℕ
+answersOf r [] = []
+answersOf r (t ∷ ts) = advanceOf r t .answer ∷ advanceOf r t .detail ∷ answersOf (advanceOf r t .run) ts
+
+-- as many whole pairs of numbers as the list has room for; what is behind stays
+unfoldable pub filled : List ℕ → List ℕ → List ℕ
+filled out xs = let ys = take (2 * (length out / 2)) xs in ys ++ drop (length ys) out
+
+-- pair i of the list, where it has room for it
+unfoldable pub noted : List ℕ → ℕ → ℕ → ℕ → List ℕ
+noted out i answer detail =
+    if ltb i (length out / 2) then set (set out (2 * i) answer) (2 * i + 1) detail
+    else out

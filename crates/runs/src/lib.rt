@@ -8,7 +8,7 @@ ghost use Prim.Native.Nat.{_/_};
 ghost use lib.ListN.{length};
 ghost use Rattle.script.specs.Step.{stepOf};
 ghost use Rattle.script.specs.Script.{stepsIn};
-ghost use Rattle.runs.specs.Runs.{stepFrom, startOf, grown, advanceOf, runOf};
+ghost use Rattle.runs.specs.Runs.{stepFrom, startOf, grown, advanceOf, runOf, answersOf, filled, noted};
 
 // By end: packets accepted by Submit there, packets taken there.
 pub struct Run {
@@ -118,6 +118,34 @@ pub fn run_steps(r: Run, l: &[u32]) -> Run
         let at = 6 * i;
         let t = step_in(&l[at..at + 6]);
         let a = x.advance(t);
+        x = a.run;
+        i += 1;
+    }
+    x
+}
+
+// Writes answer and detail of step i, where the list has room for both.
+fn note(out: &mut [u32], i: usize, answer: u8, detail: u32)
+    ensures { λ _. ⌜ now (out .exit) ≡ noted (now (out .entry)) i answer detail ⌝ }
+{
+    if i < out.len() / 2 {
+        out[2 * i] = answer as u32;
+        out[2 * i + 1] = detail;
+    }
+}
+
+// Runs the steps and writes answer and detail of each into the list lent, as far as it has room.
+pub fn run_listing(r: Run, l: &[u32], out: &mut [u32]) -> Run
+    ensures { λ x. ⌜ (x ≡ runOf r (stepsIn (now (l .entry)) (length (now (l .entry)) / 6))) × (now (out .exit) ≡ filled (now (out .entry)) (answersOf r (stepsIn (now (l .entry)) (length (now (l .entry)) / 6)))) ⌝ }
+{
+    let count = l.len() / 6;
+    let mut x = r;
+    let mut i = 0;
+    while i < count {
+        let at = 6 * i;
+        let t = step_in(&l[at..at + 6]);
+        let a = x.advance(t);
+        note(out, i, a.answer, a.detail);
         x = a.run;
         i += 1;
     }
