@@ -16,9 +16,13 @@ use Rattle.runs.specs.Runs.{runOf, startOf}
 unfoldable pub takenBy : Run → ℕ
 takenBy r = plus 4294967296 (getD (r .taken) 0 0) (getD (r .taken) 1 0)
 
+-- a run of no steps yet
+abbrev pub freshOf : Setup → Run
+freshOf link = startOf (pairs.startOf link .pair)
+
 -- by the first steps of a list of numbers, six for each, on a fresh pair
 unfoldable pub takenAfter : Setup → List ℕ → ℕ → ℕ
-takenAfter link l count = takenBy (runOf (startOf (pairs.startOf link .pair)) (stepsIn l count))
+takenAfter link l count = takenBy (runOf (freshOf link) (stepsIn l count))
 
 -- by the script's steps alone; none where the script is refused
 unfoldable pub takenIn : List ℕ → List ℕ → ℕ
