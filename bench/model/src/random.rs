@@ -57,10 +57,12 @@ pub enum Profile {
     Naks,
     /// Four channels, classes spread over them, small buffers.
     ManyChannels,
+    /// Steps in form whose numbers are often out of range, and lines that fill: every refusal that a script can meet.
+    Wild,
 }
 
-pub const PROFILES: [Profile; 5] =
-    [Profile::Mixed, Profile::Lossy, Profile::Wrapping, Profile::Naks, Profile::ManyChannels];
+pub const PROFILES: [Profile; 6] =
+    [Profile::Mixed, Profile::Lossy, Profile::Wrapping, Profile::Naks, Profile::ManyChannels, Profile::Wild];
 
 impl Profile {
     pub fn name(self) -> &'static str {
@@ -70,6 +72,7 @@ impl Profile {
             Profile::Wrapping => "wrapping",
             Profile::Naks => "naks",
             Profile::ManyChannels => "many-channels",
+            Profile::Wild => "wild",
         }
     }
 
@@ -81,6 +84,7 @@ impl Profile {
             Profile::Wrapping => [10, 25, 25, 2, 2, 16, 15, 5],
             Profile::Naks => [14, 34, 18, 12, 4, 6, 11, 1],
             Profile::ManyChannels => [26, 26, 24, 1, 1, 18, 3, 1],
+            Profile::Wild => [24, 34, 13, 2, 2, 14, 5, 6],
         }
     }
 
@@ -153,7 +157,13 @@ fn one(profile: Profile, random: &mut Random, setup: &Setup, ident: u32) -> Step
     }
     let end = random.below(2);
     match number {
+        SUBMIT if profile == Profile::Wild && random.percent(30) => {
+            Step::submit(end, odd_packet(random, ident))
+        }
         SUBMIT => Step::submit(end, any_packet(random, setup, end, ident)),
+        TAKE if profile == Profile::Wild && random.percent(30) => {
+            Step::take(end, odd(random, CHANNELS as u32, 256), odd(random, CATEGORIES as u32, 256))
+        }
         TAKE => {
             // A few are out of range: 20.
             let channel = if random.percent(2) { random.below(256) } else { random.below(setup.channels) };
@@ -162,6 +172,19 @@ fn one(profile: Profile, random: &mut Random, setup: &Setup, ident: u32) -> Step
         }
         _ => Step::bare(number, end),
     }
+}
+
+/// A number in range or a little past it, at times anything that the field can hold.
+fn odd(random: &mut Random, range: u32, whole: u32) -> u32 {
+    let most = if random.percent(20) { whole } else { range + 2 };
+    random.below(most)
+}
+
+/// A packet with each number in range or not, by itself.
+fn odd_packet(random: &mut Random, ident: u32) -> Packet {
+    let (kind, class) = (odd(random, 10, 256), odd(random, 8, 256));
+    let longest = random.one_of(&[1, 4, 64, 1024]);
+    Packet::new(kind, class, odd(random, longest, 1 << 16), ident)
 }
 
 /// Any packet, mostly one that Submit can accept; some break rules 12 to 15.
@@ -221,8 +244,21 @@ pub fn script(profile: Profile, seed: u64) -> Vec<u8> {
             random.from_to(0, most)
         }
     };
-    let steps = steps(profile, &mut random, &setup, count as usize);
-    script::write(&setup, &steps).expect("a setup in range and steps in form")
+    written(profile, &mut random, &setup, count)
+}
+
+/// The bytes of a well-formed script of a profile, of at most so many steps.
+pub fn short_script(profile: Profile, seed: u64, most: u32) -> Vec<u8> {
+    let mut random = Random::new(seed);
+    let setup = setup(profile, &mut random);
+    let count = random.from_to(0, most);
+    written(profile, &mut random, &setup, count)
+}
+
+/// The bytes of a script of a setup and so many steps of a profile.
+fn written(profile: Profile, random: &mut Random, setup: &Setup, count: u32) -> Vec<u8> {
+    let steps = steps(profile, random, setup, count as usize);
+    script::write(setup, &steps).expect("a setup in range and steps in form")
 }
 
 /// The bytes of a script that is spoilt in one way. A few are still well-formed, as when only an ident changed.

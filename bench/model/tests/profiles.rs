@@ -97,6 +97,19 @@ fn many_channels_use_all_four() {
 }
 
 #[test]
+fn wild_scripts_meet_every_refusal_of_a_step() {
+    let mut answers = [0; 28];
+    each(Profile::Wild, 40, |_, run| {
+        for outcome in &run.outcomes {
+            answers[outcome.answer as usize] += 1;
+        }
+    });
+    // The reader refuses an end that is not 0 or 1, so no script meets 11; and none meets 10 or 24 to 27.
+    assert!(answers[12..=23].iter().all(|&count| count > 10), "{answers:?}");
+    assert!([6, 10, 11, 24, 25, 26, 27].iter().all(|&answer| answers[answer] == 0), "{answers:?}");
+}
+
+#[test]
 fn malformed_scripts_meet_every_refusal_of_the_reader() {
     let mut answers = [0; 8];
     let mut longest = 0;

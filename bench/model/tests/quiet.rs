@@ -43,7 +43,7 @@ fn n_rounds_take_n_packets_on_random_states() {
             most = most.max(untaken);
         }
     }
-    assert_eq!(states, 400);
+    assert_eq!(states, 480);
     assert!(most > 60, "at most {most} untaken");
 }
 

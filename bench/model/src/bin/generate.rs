@@ -1,5 +1,5 @@
 //! `generate PROFILE SEED` writes a random script to standard output. PROFILE is mixed, lossy, wrapping, naks,
-//! many-channels or malformed.
+//! many-channels, wild or malformed.
 
 use std::io::{self, Write};
 use std::process::ExitCode;
@@ -24,7 +24,7 @@ fn main() -> ExitCode {
     };
     let Some(bytes) = script else {
         eprintln!(
-            "generate PROFILE SEED: mixed, lossy, wrapping, naks, many-channels or malformed, and a number"
+            "generate PROFILE SEED: mixed, lossy, wrapping, naks, many-channels, wild or malformed, and a number"
         );
         return ExitCode::FAILURE;
     };
