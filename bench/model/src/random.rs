@@ -112,7 +112,13 @@ impl Profile {
 
 /// A setup in range.
 pub fn setup(profile: Profile, random: &mut Random) -> Setup {
-    let mut setup = Setup { channels: profile.channels(random), ..Setup::default() };
+    let channels = profile.channels(random);
+    setup_with(profile, random, channels)
+}
+
+/// A setup in range with so many channels.
+fn setup_with(profile: Profile, random: &mut Random, channels: u32) -> Setup {
+    let mut setup = Setup { channels, ..Setup::default() };
     for channel in &mut setup.class_channels {
         *channel = random.below(setup.channels);
     }
@@ -252,6 +258,13 @@ pub fn short_script(profile: Profile, seed: u64, most: u32) -> Vec<u8> {
     let mut random = Random::new(seed);
     let setup = setup(profile, &mut random);
     let count = random.from_to(0, most);
+    written(profile, &mut random, &setup, count)
+}
+
+/// A script of a profile with so many channels and steps.
+pub fn sized_script(profile: Profile, seed: u64, channels: u32, count: u32) -> Vec<u8> {
+    let mut random = Random::new(seed);
+    let setup = setup_with(profile, &mut random, channels);
     written(profile, &mut random, &setup, count)
 }
 
