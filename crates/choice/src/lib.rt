@@ -19,7 +19,7 @@ pub struct Seen {
 }
 
 impl Seen {
-    fn none() -> Seen
+    pub fn none() -> Seen
         ensures { λ r. ⌜ r ≡ seenIn [] ⌝ }
     {
         Seen {
@@ -41,7 +41,7 @@ impl Seen {
     }
 
     // One of category c is passed.
-    fn with(self, c: Category) -> Seen
+    pub fn with(self, c: Category) -> Seen
         ensures { λ r. ⌜ r ≡ seeing self c ⌝ }
     {
         match c {
@@ -64,7 +64,7 @@ impl Seen {
     }
 
     // May a packet go after these? One of its category rules it out, and so does a posted one, whatever it is itself.
-    fn lets(self, c: Category, credit: Credit, p: Packet) -> bool
+    pub fn lets(self, c: Category, credit: Credit, p: Packet) -> bool
         ensures { λ r. ⌜ r ≡ mayGo self c credit p ⌝ }
     {
         let passed = self.has(c);

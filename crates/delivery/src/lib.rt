@@ -120,7 +120,7 @@ pub fn damage(r: Receiver) -> Receiver
 }
 
 // Does what was found stand before this place?
-fn is_before(f: Found, place: usize) -> bool
+pub fn is_before(f: Found, place: usize) -> bool
     ensures { λ x. ⌜ x ≡ isBefore f place ⌝ }
 {
     match f {

@@ -20,7 +20,7 @@ fn releases(s: Sender, number: Seq) -> usize
 }
 
 // Where a running replay goes on after k packets are released and `left` are left.
-fn moved(k: usize, left: usize, at: Found) -> Found
+pub fn moved(k: usize, left: usize, at: Found) -> Found
     ensures { λ r. ⌜ r ≡ moved k left at ⌝ }
 {
     let Found::At(i) = at else {

@@ -77,13 +77,13 @@ fn swapped(link: Setup) -> Setup
 
 // The packet of a Submit that is in form: each number fits its bytes.
 // A number, or the largest that its type holds: what is over that is refused like it.
-fn capped(most: u32, x: u32) -> u32
+pub fn capped(most: u32, x: u32) -> u32
     ensures { λ r. ⌜ (r ≡ capped most x) × (r ≤ most) ⌝ }
 {
     if x <= most { x } else { most }
 }
 
-fn packet_of(t: Step) -> Packet
+pub fn packet_of(t: Step) -> Packet
     ensures { λ r. ⌜ r ≡ cappedPacket t ⌝ }
 {
     let kind = capped(255, t.kind);

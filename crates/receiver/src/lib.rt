@@ -133,7 +133,7 @@ impl Reply {
 }
 
 // The channel of a slot 3 * channel + category; past the last slot channel 0.
-fn channel_in(slot: usize) -> u8
+pub fn channel_in(slot: usize) -> u8
     ensures { λ r. ⌜ r ≡ channelIn slot ⌝ }
 {
     if slot < PER_END {
@@ -143,7 +143,7 @@ fn channel_in(slot: usize) -> u8
 }
 
 // The category of a slot 3 * channel + category.
-fn category_in(slot: usize) -> Category
+pub fn category_in(slot: usize) -> Category
     ensures { λ r. ⌜ r ≡ categoryIn slot ⌝ }
 {
     if slot % 3 == 0 {

@@ -99,7 +99,7 @@ fn credits_for(link: Setup) -> [Credit; PER_END]
 }
 
 // The place after place i, where there is one below len.
-fn place_after(i: usize, len: usize) -> Found
+pub fn place_after(i: usize, len: usize) -> Found
     ensures { λ r. ⌜ r ≡ placeAfter i len ⌝ }
 {
     if i < len {
