@@ -1,0 +1,12 @@
+pub mod EndLaws
+pub mod LinesLaws
+pub mod ListsLaws
+pub mod LoadLaws
+pub mod MessageLaws
+pub mod PairLaws
+pub mod ReceivingLaws
+pub mod ReceivingWays
+pub mod SendingLaws
+pub mod SourceLaws
+pub mod StepLaws
+pub mod StoreLaws

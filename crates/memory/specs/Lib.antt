@@ -1,0 +1,4 @@
+pub mod Said
+pub mod Receiving
+pub mod Sources
+pub mod Unasked
