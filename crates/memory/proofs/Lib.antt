@@ -1,4 +1,5 @@
 pub mod EndLaws
+pub mod HostLaws
 pub mod LinesLaws
 pub mod ListsLaws
 pub mod LoadLaws

@@ -1,5 +1,6 @@
 // A pair in memory that its host lends as words, stepped there: no step copies more than one word at a time. What the words mean
 // stands in words/specs/Memory. No step looks at the shape of the pair. Assumes nothing: `step` takes every memory.
+pub mod hosts;
 mod lines;
 mod lists;
 mod loads;
@@ -7,6 +8,7 @@ mod messages;
 mod one_end;
 mod receiving;
 mod sending;
+mod setups;
 mod sources;
 mod stores;
 
@@ -36,6 +38,7 @@ const END: usize = 474;
 const LINES_AT: usize = 948;
 
 // What a step says.
+#[repr(C)]
 pub struct Said {
     pub answer: u8,
     pub detail: u32,
