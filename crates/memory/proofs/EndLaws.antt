@@ -29,10 +29,10 @@ use Rattle.receiver.specs.declared.Receiver.{Receiver}
 use Rattle.receiver.specs.Receiver.{refreshed}
 use Rattle.hearing.specs.Hearing.{hears}
 use Rattle.delivery.specs.declared.Got.{Got}
-use Rattle.delivery.specs.Delivery.{arrives, damaged}
+use Rattle.delivery.specs.Delivery.{arrives, damaged, takeOf}
 use Rattle.ends.specs.declared.End.{End}
 use Rattle.ends.specs.declared.Stepped.{Stepped}
-use Rattle.ends.specs.Ends.{end, bySender, byReceiver, channelFor, tooMuch, tooMany, submitAnswer, submitOf, heard, arriveOf, damageOf, refreshOf}
+use Rattle.ends.specs.Ends.{end, bySender, byReceiver, channelFor, tooMuch, tooMany, submitAnswer, submitOf, heard, arriveOf, damageOf, takeAt, refreshOf}
 use Rattle.words.specs.Words.{packetIn, seqIn, messageIn, frameIn}
 use Rattle.words.specs.Memory.{sender-words, receiver-words, end-words, senderIn, receiverIn, sendingIn, receivingIn, endIn}
 use Rattle.words.proofs.Patched.{back-patched}
@@ -88,6 +88,14 @@ Answers link w r s = ((r ≡ s .answer) × (endIn link w ≡ s .end)) × (length
 abbrev Says : Setup → List ℕ → Said → Stepped → Type 0
 Says link w r s = ((r ≡ saidStepped s) × (endIn link w ≡ s .end)) × (length w ≡ end-words)
 
+-- how many words, where a half comes back
+module _ (m : List ℕ) (long : length m ≡ end-words) (ys : List ℕ) where
+  pub sending-long : length ys ≡ sender-words → length (ys ++ drop sender-words m) ≡ end-words
+  sending-long k = rw (back-patched m 0 sender-words ys k) (sending-keeps m long ys k)
+
+  pub receiving-long : length ys ≡ receiver-words → length (take sender-words m ++ (ys ++ drop receiver-words (drop sender-words m))) ≡ end-words
+  receiving-long k = rw (back-patched m sender-words receiver-words ys k) (receiving-keeps m long ys k)
+
 module _ (link : Setup) (m : List ℕ) (long : length m ≡ end-words) where
   abbrev it : End
   it = endIn link m
@@ -122,9 +130,17 @@ module _ (link : Setup) (m : List ℕ) (long : length m ≡ end-words) where
     unfolding endIn
     by-receiver g r h = let b = receiving-back (g .receiver) (h .0 .1, h .1) in ((h .0 .0, b .0), b .1)
 
-    pub refreshes : (receiverIn ys ≡ refreshed (receivingIn m) (link .n)) × (length ys ≡ receiver-words) → Leaves link with-receiving (refreshOf it .end)
-    unfolding endIn refreshOf
-    refreshes h = receiving-back _ h
+    -- a step that asks for the number of channels
+    module _ (n : ℕ) (of : n ≡ link .n) where
+      pub takes : (channel category : ℕ) (r : Said)
+          → ((r ≡ saidGot (takeOf (receivingIn m) n channel category)) × (receiverIn ys ≡ takeOf (receivingIn m) n channel category .receiver)) × (length ys ≡ receiver-words)
+          → Says link with-receiving r (takeAt it channel category)
+      unfolding endIn
+      takes channel category r h = by-receiver (takeOf (receivingIn m) (link .n) channel category) r (rw of at h)
+
+      pub refreshes : (receiverIn ys ≡ refreshed (receivingIn m) n) × (length ys ≡ receiver-words) → Leaves link with-receiving (refreshOf it .end)
+      unfolding endIn refreshOf
+      refreshes h = receiving-back _ (rw of at h)
 
   -- Submit
   module _ (p : Packet) (a : ℕ) (answer : a ≡ submitAnswer it p) where
@@ -176,13 +192,15 @@ module _ (link : Setup) (m : List ℕ) (long : length m ≡ end-words) where
 
     pub damage-packet : (number : Seq) (p : Packet) → f ≡ Frame.Packet number p → (ys : List ℕ)
         → (receiverIn ys ≡ damaged (receivingIn m)) × (length ys ≡ receiver-words)
-        → Leaves link (take sender-words m ++ (ys ++ drop receiver-words (drop sender-words m))) (damageOf it g .end)
+        → Says link (take sender-words m ++ (ys ++ drop receiver-words (drop sender-words m))) (said 0 4) (damageOf it g)
     unfolding damageOf endIn
-    damage-packet number p is ys h = rw (sym same, is) (receiving-back ys (damaged (receivingIn m)) h)
+    damage-packet number p is ys h =
+        let b = receiving-back ys (damaged (receivingIn m)) h in
+        rw (sym same, is) ((refl, b .0), b .1)
 
-    pub damage-message : (x : Message) → f ≡ Frame.Message x → Leaves link m (damageOf it g .end)
+    pub damage-message : (x : Message) → f ≡ Frame.Message x → Says link m (said 0 4) (damageOf it g)
     unfolding damageOf
-    damage-message x is = rw (sym same, is) (refl, long)
+    damage-message x is = rw (sym same, is) ((refl, refl), long)
 
 -- the second word of a packet's frame is the packet's
 abbrev packetFrom : Packet → Frame → Packet

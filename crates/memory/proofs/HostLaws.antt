@@ -2,6 +2,7 @@
 -- Assumes of most that the memory has all words of an end and its setup.
 use Prim.Native.Nat.{ℕ, _+_, _*_, _/_, _%_, _≤_, _<_}
 use mathlib.Core.Path.{_≡_, refl, sym, ap, _∙_}
+use mathlib.Core.Logic.{_≢_}
 use mathlib.Core.Bool.{Bool, true, false, true≢false}
 use mathlib.Core.List.{List, _++_, map}
 use native.Mathlib.Omega.{arith}
@@ -11,13 +12,8 @@ use lib.ListN.{length, getD, take, drop, set, length-set}
 use lib.Seq.{take-take, getD-set-same}
 use Rattle.basics.specs.Choice.{if_then_else_}
 use Rattle.basics.specs.Parts.{part}
-use Rattle.basics.proofs.Shift.{drop-take}
 use Rattle.basics.proofs.Places.{getD-any}
-use Rattle.counters.specs.declared.Seq.{Seq}
-use Rattle.packets.specs.declared.Packet.{Packet}
 use Rattle.frames.specs.declared.Frame.{Frame}
-use Rattle.frames.specs.declared.Frame.the-variants as Frame
-use Rattle.frames.specs.declared.Message.{Message}
 use Rattle.line.specs.declared.Front.the-variants as Front
 use Rattle.setup.specs.declared.Found.{Found}
 use Rattle.setup.specs.declared.Setup.{Setup}
@@ -25,45 +21,32 @@ use Rattle.setup.specs.declared.Units.{Units}
 use Rattle.setup.specs.Bytes.{readSetup}
 use Rattle.setup.specs.Setup.{slots, blankSetup, inRange}
 use Rattle.sender.specs.declared.Replay.{Replay}
-use Rattle.sender.specs.declared.Told.{Told}
 use Rattle.sender.specs.declared.Sender.{Sender}
 use Rattle.receiver.specs.declared.Receiver.{Receiver}
-use Rattle.receiver.specs.Receiver.{refreshed}
-use Rattle.delivery.specs.declared.Got.{Got}
-use Rattle.delivery.specs.Delivery.{damaged}
 use Rattle.shape.specs.Shape.{inShape}
 use Rattle.ends.specs.declared.Sent.{Sent}
 use Rattle.ends.specs.declared.End.{End}
 use Rattle.ends.specs.declared.Stepped.{Stepped}
-use Rattle.ends.specs.Sends.{sent, sendOf}
-use Rattle.ends.specs.Ends.{end, endOf, bySender, byReceiver, damageOf, refreshOf}
+use Rattle.ends.specs.Sends.{sendOf}
+use Rattle.ends.specs.Ends.{end, endOf, refreshOf}
 use Rattle.pairs.specs.declared.Paired.{Paired}
 use Rattle.pairs.specs.Pairs.{endAt, pairOf, startOf}
 use Rattle.words.specs.Words.{frameIn}
-use Rattle.words.specs.Memory.{sender-words, receiver-words, end-words, senderIn, receiverIn, sendingIn, receivingIn, endIn}
-use Rattle.words.proofs.Patched.{patched, back-patched, length-patched, length-part, part-same, part-before, part-after, part-within, part-set-after}
-use Rattle.words.proofs.Whole.{put-sending, put-receiving}
+use Rattle.words.specs.Memory.{sender-words, end-words, senderIn, sendingIn, receivingIn, endIn}
+use Rattle.words.proofs.Patched.{patched, back-patched, length-patched, part-same, part-before, part-after, part-set-after}
 use Rattle.memory.specs.declared.Given.{Given}
-use Rattle.memory.specs.declared.Said.{Said}
 use Rattle.memory.specs.declared.Source.{Source}
 use Rattle.memory.specs.declared.Source.the-variants as Source
 use Rattle.memory.specs.declared.hosts.Sending.{Sending}
-use Rattle.memory.specs.Said.{said, saidGot, saidStepped}
 use Rattle.memory.specs.Sources.{sourceOf, frameFrom, senderAfter, receiverAfter, detailFrom}
-use Rattle.memory.specs.Hosted.{setup-words, units-at, unitsIn, classIn, setupIn, hosted-words, hostedIn, isHosted, Leaves, sending, sentIn, Sends, startAnswer, startedEnd, shapeAnswer, retrainsIn}
+use Rattle.memory.specs.Hosted.{setup-words, units-at, unitsIn, classIn, setupIn, hosted-words, linkIn, hostedIn, isHosted, Leaves, sending, sentIn, Sends, startAnswer, startedEnd, shapeAnswer, retrainsIn}
 use Rattle.memory.proofs.SourceLaws.{sentFrom, sends-as}
+use Rattle.memory.proofs.PairLaws.{some-given}
 
 module _ (m : List ℕ) (long : length m ≡ hosted-words) where
-  abbrev link : Setup
-  link = setupIn (part m end-words setup-words)
-
   -- ---- the parts of the end
 
-  pub setup-is : hostedIn m .setup ≡ setupIn (part m end-words setup-words)
-  unfolding hostedIn endIn
-  setup-is = refl
-
-  pub hosted-is : (l : Setup) → l ≡ setupIn (part m end-words setup-words) → hostedIn m ≡ endIn l (part m 0 end-words)
+  pub hosted-is : (l : Setup) → l ≡ linkIn m → hostedIn m ≡ endIn l (part m 0 end-words)
   unfolding hostedIn
   hosted-is l e = ap (λ (x : Setup). endIn x (part m 0 end-words)) (sym e)
 
@@ -71,34 +54,13 @@ module _ (m : List ℕ) (long : length m ≡ hosted-words) where
   unfolding hostedIn endIn
   sending-is = ap senderIn (take-take sender-words end-words m (omega arith))
 
-  pub receiving-is : hostedIn m .receiver ≡ receiverIn (part m sender-words receiver-words)
-  unfolding hostedIn endIn
-  receiving-is = ap receiverIn (ap (λ r. take receiver-words r) (drop-take sender-words end-words m (omega arith)) ∙ take-take receiver-words receiver-words (drop sender-words m) (omega arith))
-
-  -- ---- the end, or one of its halves, written anew
+  -- ---- the end or its setup written anew
 
   module _ (ys : List ℕ) where
-    pub puts-end : length ys ≡ end-words → hostedIn (patched m 0 ys) ≡ endIn link ys
+    pub puts-end : length ys ≡ end-words → hostedIn (patched m 0 ys) ≡ endIn (linkIn m) ys
     unfolding hostedIn
     puts-end e = rw (part-same m 0 ys (omega arith) end-words e, part-after m 0 ys (omega arith) end-words setup-words (omega arith))
 
-    pub puts-sending : length ys ≡ sender-words → hostedIn (patched m 0 ys) ≡ end (hostedIn m .setup) (senderIn ys) (hostedIn m .receiver)
-    unfolding hostedIn endIn setupIn
-    puts-sending e =
-        rw (
-          part-within m 0 ys (omega arith) 0 end-words (omega arith) (omega arith),
-          part-after m 0 ys (omega arith) end-words setup-words (omega arith),
-        ) (put-sending (part m 0 end-words) (length-part m 0 end-words (omega arith)) ys e link)
-
-    pub puts-receiving : length ys ≡ receiver-words → hostedIn (patched m sender-words ys) ≡ end (hostedIn m .setup) (hostedIn m .sender) (receiverIn ys)
-    unfolding hostedIn endIn setupIn
-    puts-receiving e =
-        rw (
-          part-within m sender-words ys (omega arith) 0 end-words (omega arith) (omega arith),
-          part-after m sender-words ys (omega arith) end-words setup-words (omega arith),
-        ) (put-receiving (part m 0 end-words) (length-part m 0 end-words (omega arith)) ys e link)
-
-    -- the setup
     pub puts-setup : length ys ≡ setup-words → hostedIn (patched m end-words ys) ≡ endIn (setupIn ys) (part m 0 end-words)
     unfolding hostedIn
     puts-setup e = rw (part-before m end-words ys (omega arith) 0 end-words (omega arith), part-same m end-words ys (omega arith) setup-words e)
@@ -129,7 +91,7 @@ module _ {A : Type 0} (says : Stepped → A) (none : A) (m : List ℕ) where
         (rw t e, leaves (isHosted m) m w (s .end) t is keeps)
 
     -- of the words of the end
-    pub by-whole : (f : End → Stepped) (l : Setup) → l ≡ setupIn (part m end-words setup-words) → (r : A) (ys : List ℕ)
+    pub by-whole : (f : End → Stepped) (l : Setup) → l ≡ linkIn m → (r : A) (ys : List ℕ)
         → ((r ≡ says (f (endIn l (part m 0 end-words)))) × (endIn l ys ≡ f (endIn l (part m 0 end-words)) .end)) × (length ys ≡ end-words)
         → Promise says none m (ys ++ drop end-words m) r (f (hostedIn m))
     by-whole f l el r ys h =
@@ -139,89 +101,11 @@ module _ {A : Type 0} (says : Stepped → A) (none : A) (m : List ℕ) where
         (puts-end m long ys (h .1) ∙ ap (λ (x : Setup). endIn x ys) (sym el) ∙ h .0 .1 ∙ ap (λ (x : End). f x .end) (sym e))
         (length-patched m 0 ys (omega arith)))
 
-    -- of the words of one half, with the end after it
-    pub by-sending : (s : Stepped) (r : A) (ys : List ℕ) → r ≡ says s → length ys ≡ sender-words
-        → end (hostedIn m .setup) (senderIn ys) (hostedIn m .receiver) ≡ s .end → Promise says none m (ys ++ drop sender-words m) r s
-    by-sending s r ys e l is =
-        rw (back-patched m 0 sender-words ys l)
-        (does (patched m 0 ys) s r e (puts-sending m long ys l ∙ is) (length-patched m 0 ys (omega arith)))
-
-    pub by-receiving : (s : Stepped) (r : A) (ys : List ℕ) → r ≡ says s → length ys ≡ receiver-words
-        → end (hostedIn m .setup) (hostedIn m .sender) (receiverIn ys) ≡ s .end
-        → Promise says none m (take sender-words m ++ (ys ++ drop receiver-words (drop sender-words m))) r s
-    by-receiving s r ys e l is =
-        rw (back-patched m sender-words receiver-words ys l)
-        (does (patched m sender-words ys) s r e (puts-receiving m long ys l ∙ is) (length-patched m sender-words ys (omega arith)))
-
-    pub by-none : (s : Stepped) (r : A) → r ≡ says s → hostedIn m ≡ s .end → Promise says none m m r s
-    by-none s r e is = does m s r e is refl
-
--- ---- the steps of one half
-
-module _ (m : List ℕ) (long : length m ≡ hosted-words) where
-  pub by-told : (f : Sender → Told) (r : ℕ) (ys : List ℕ)
-      → ((r ≡ f (senderIn (part m 0 sender-words)) .answer) × (senderIn ys ≡ f (senderIn (part m 0 sender-words)) .sender)) × (length ys ≡ sender-words)
-      → Promise (λ (s : Stepped). s .answer) 10 m (ys ++ drop sender-words m) r (bySender (hostedIn m) (f (hostedIn m .sender)))
-  by-told f r ys h =
-      let e = sym (sending-is m long) in
-      by-sending (λ (s : Stepped). s .answer) 10 m long (bySender (hostedIn m) (f (hostedIn m .sender))) r ys (h .0 .0 ∙ ap (λ (x : Sender). f x .answer) e) (h .1)
-      (ap (λ (x : Sender). end (hostedIn m .setup) x (hostedIn m .receiver)) (h .0 .1 ∙ ap (λ (x : Sender). f x .sender) e))
-
-  abbrev received : List ℕ → List ℕ
-  received ys = take sender-words m ++ (ys ++ drop receiver-words (drop sender-words m))
-
-  module _ (n : ℕ) (en : n ≡ setupIn (part m end-words setup-words) .n) where
-    same : {B : Type 0} (f : Receiver → ℕ → B) → f (receiverIn (part m sender-words receiver-words)) n ≡ f (hostedIn m .receiver) (hostedIn m .setup .n)
-    same f =
-        ap (λ (x : Receiver). f x n) (sym (receiving-is m long))
-        ∙ ap (λ (x : ℕ). f (hostedIn m .receiver) x) (en ∙ ap (λ (x : Setup). x .n) (sym (setup-is m long)))
-
-    pub by-got : (f : Receiver → ℕ → Got) (r : Said) (ys : List ℕ)
-        → ((r ≡ saidGot (f (receiverIn (part m sender-words receiver-words)) n)) × (receiverIn ys ≡ f (receiverIn (part m sender-words receiver-words)) n .receiver)) × (length ys ≡ receiver-words)
-        → Promise saidStepped (said 10 0) m (received ys) r (byReceiver (hostedIn m) (f (hostedIn m .receiver) (hostedIn m .setup .n)))
-    by-got f r ys h =
-        by-receiving saidStepped (said 10 0) m long (byReceiver (hostedIn m) (f (hostedIn m .receiver) (hostedIn m .setup .n))) r ys (h .0 .0 ∙ ap saidGot (same f)) (h .1)
-        (ap (λ (x : Receiver). end (hostedIn m .setup) (hostedIn m .sender) x) (h .0 .1 ∙ same (λ (x : Receiver) (k : ℕ). f x k .receiver)))
-
-    pub by-refresh : (ys : List ℕ) → (receiverIn ys ≡ refreshed (receiverIn (part m sender-words receiver-words)) n) × (length ys ≡ receiver-words)
-        → Promise (λ (s : Stepped). s .answer) 10 m (received ys) 0 (refreshOf (hostedIn m))
-    unfolding refreshOf
-    by-refresh ys h =
-        by-receiving (λ (s : Stepped). s .answer) 10 m long (refreshOf (hostedIn m)) 0 ys refl (h .1)
-        (ap (λ (x : Receiver). end (hostedIn m .setup) (hostedIn m .sender) x) (h .0 ∙ same refreshed))
-
-  -- a damaged packet, a damaged message
-  pub by-damage : (f : Frame) (number : Seq) (p : Packet) → f ≡ Frame.Packet number p → (ys : List ℕ)
-      → (receiverIn ys ≡ damaged (receiverIn (part m sender-words receiver-words))) × (length ys ≡ receiver-words)
-      → Promise saidStepped (said 10 0) m (received ys) (said 0 4) (damageOf (hostedIn m) f)
-  unfolding damageOf
-  by-damage f number p e ys h =
-      rw e
-      (by-receiving saidStepped (said 10 0) m long (damageOf (hostedIn m) (Frame.Packet number p)) (said 0 4) ys refl (h .1)
-      (ap (λ (x : Receiver). end (hostedIn m .setup) (hostedIn m .sender) x) (h .0 ∙ ap damaged (sym (receiving-is m long)))))
-
-  pub by-message : (f : Frame) (x : Message) → f ≡ Frame.Message x → Promise saidStepped (said 10 0) m m (said 0 4) (damageOf (hostedIn m) f)
-  unfolding damageOf
-  by-message f x e = rw e (by-none saidStepped (said 10 0) m long (damageOf (hostedIn m) (Frame.Message x)) (said 0 4) refl refl)
+pub refresh-answer : (e : End) → 0 ≡ refreshOf e .answer
+unfolding refreshOf
+refresh-answer e = refl
 
 -- ---- Send
-
-none-is : (x : Source) → detailFrom x ≡ 0 → x ≡ Source.Nothing
-none-is Source.Nak h = absurd (omega arith)
-none-is Source.Ack h = absurd (omega arith)
-none-is (Source.Update i) h = absurd (omega arith)
-none-is (Source.Replay i) h = absurd (omega arith)
-none-is (Source.New channel place) h = absurd (omega arith)
-none-is Source.Nothing h = refl
-
-frame-is : (e : End) (x : Source) → (detailFrom x ≡ 0 → ⊥)
-    → sentFrom e x ≡ sent (end (e .setup) (senderAfter (e .sender) x) (receiverAfter (e .receiver) x)) (Front.Frame (frameFrom (e .sender) (e .receiver) x)) 0 (detailFrom x)
-frame-is e Source.Nak h = refl
-frame-is e Source.Ack h = refl
-frame-is e (Source.Update i) h = refl
-frame-is e (Source.Replay i) h = refl
-frame-is e (Source.New channel place) h = refl
-frame-is e Source.Nothing h = absurd (h refl)
 
 pub sends-refused : (m : List ℕ) → (length m ≡ hosted-words → ⊥) → (r : Sending) → r ≡ sending 10 0 0 0
     → Sends m m r × Leaves (isHosted m) m m (sendOf (hostedIn m) .end)
@@ -229,50 +113,48 @@ sends-refused m h r e =
     let t : isHosted m ≡ false = ne-eqb (length m) hosted-words h in
     ((λ is. absurd (true≢false (sym is ∙ t)), (λ _. e, λ _. e ∙ ap (λ (x : Sending). sending (x .answer) 0 0 0) (sym e))), stays (isHosted m) m (sendOf (hostedIn m) .end) t)
 
-module _ (m : List ℕ) (long : length m ≡ hosted-words) (ys : List ℕ) (l : length ys ≡ end-words) where
-  sends : (r : Sending) → sentIn (patched m 0 ys) r ≡ sendOf (hostedIn m) → (eqb (r .answer) 0 ≡ false → r ≡ sending (r .answer) 0 0 0)
-      → Sends m (ys ++ drop end-words m) r × Leaves (isHosted m) m (ys ++ drop end-words m) (sendOf (hostedIn m) .end)
-  sends r is none =
+module _ (m : List ℕ) (long : length m ≡ hosted-words) where
+  sends : (w : List ℕ) (r : Sending) → length w ≡ length m → sentIn w r ≡ sendOf (hostedIn m) → (eqb (r .answer) 0 ≡ false → r ≡ sending (r .answer) 0 0 0)
+      → Sends m w r × Leaves (isHosted m) m w (sendOf (hostedIn m) .end)
+  sends w r keeps is none =
       let t : isHosted m ≡ true = eq-eqb (length m) hosted-words long in
-      rw (back-patched m 0 end-words ys l) (
-        (λ _. is, (λ (n : isHosted m ≡ false). absurd (true≢false (sym t ∙ n)), none)),
-        leaves (isHosted m) m (patched m 0 ys) (sendOf (hostedIn m) .end) t (ap (λ (x : Sent). x .end) is) (length-patched m 0 ys (omega arith)),
-      )
+      ((λ _. is, (λ (n : isHosted m ≡ false). absurd (true≢false (sym t ∙ n)), none)), leaves (isHosted m) m w (sendOf (hostedIn m) .end) t (ap (λ (x : Sent). x .end) is) keeps)
 
-  module _ (x : Source) (ex : x ≡ sourceOf (sendingIn (part m 0 end-words)) (receivingIn (part m 0 end-words))) (g : Given)
-      (frame : (frameIn (g .head) (g .rest) ≡ frameFrom (sendingIn (part m 0 end-words)) (receivingIn (part m 0 end-words)) x) × (g .detail ≡ detailFrom x))
-      (halves : (sendingIn ys ≡ senderAfter (sendingIn (part m 0 end-words)) x) × (receivingIn ys ≡ receiverAfter (receivingIn (part m 0 end-words)) x)) where
-    after : hostedIn (patched m 0 ys) ≡ end (hostedIn m .setup) (senderAfter (hostedIn m .sender) x) (receiverAfter (hostedIn m .receiver) x)
-    unfolding hostedIn endIn
-    after = puts-end m long ys l ∙ ap (λ (s : Sender). end (hostedIn m .setup) s (receivingIn ys)) (halves .0) ∙ ap (λ (r : Receiver). end (hostedIn m .setup) (senderAfter (hostedIn m .sender) x) r) (halves .1)
-
+  module _ (x : Source) (ex : x ≡ sourceOf (sendingIn (part m 0 end-words)) (receivingIn (part m 0 end-words))) where
     is : sendOf (hostedIn m) ≡ sentFrom (hostedIn m) x
     unfolding hostedIn endIn
     is = sends-as (hostedIn m) ∙ ap (λ (y : Source). sentFrom (hostedIn m) y) (sym ex)
 
-    front : Front.Frame (frameIn (g .head) (g .rest)) ≡ Front.Frame (frameFrom (hostedIn m .sender) (hostedIn m .receiver) x)
-    unfolding hostedIn endIn
-    front = ap (λ (f : Frame). Front.Frame f) (frame .0)
+    pub sends-none : x ≡ Source.Nothing → (r : Sending) → r ≡ sending 18 0 0 0 → Sends m m r × Leaves (isHosted m) m m (sendOf (hostedIn m) .end)
+    sends-none z r e = sends m r refl (rw e (sym (rw z at is))) (λ _. e ∙ ap (λ (y : Sending). sending (y .answer) 0 0 0) (sym e))
 
-    pub sends-frame : (g .detail ≡ 0 → ⊥) → Sends m (ys ++ drop end-words m) (sending 0 (g .detail) (g .head) (g .rest))
-        × Leaves (isHosted m) m (ys ++ drop end-words m) (sendOf (hostedIn m) .end)
-    sends-frame h =
-        sends (sending 0 (g .detail) (g .head) (g .rest))
-        (rw (after, front, frame .1) (sym (is ∙ frame-is (hostedIn m) x (λ z. h (frame .1 ∙ z))))) (λ n. absurd (true≢false n))
+    module _ (ys : List ℕ) (l : length ys ≡ end-words) (g : Given)
+        (frame : (frameIn (g .head) (g .rest) ≡ frameFrom (sendingIn (part m 0 end-words)) (receivingIn (part m 0 end-words)) x) × (g .detail ≡ detailFrom x))
+        (halves : (sendingIn ys ≡ senderAfter (sendingIn (part m 0 end-words)) x) × (receivingIn ys ≡ receiverAfter (receivingIn (part m 0 end-words)) x)) where
+      after : hostedIn (patched m 0 ys) ≡ end (hostedIn m .setup) (senderAfter (hostedIn m .sender) x) (receiverAfter (hostedIn m .receiver) x)
+      unfolding hostedIn endIn
+      after =
+          puts-end m long ys l
+          ∙ ap (λ (s : Sender). end (hostedIn m .setup) s (receivingIn ys)) (halves .0)
+          ∙ ap (λ (r : Receiver). end (hostedIn m .setup) (senderAfter (hostedIn m .sender) x) r) (halves .1)
 
-    pub sends-none : g .detail ≡ 0 → (r : Sending) → r ≡ sending 18 0 0 0
-        → Sends m (ys ++ drop end-words m) r × Leaves (isHosted m) m (ys ++ drop end-words m) (sendOf (hostedIn m) .end)
-    sends-none h r e =
-        let z : x ≡ Source.Nothing = none-is x (sym (frame .1) ∙ h) in
-        let w : hostedIn (patched m 0 ys) ≡ hostedIn m = rw z at after in
-        sends r (rw (e, w) (sym (rw z at is))) (λ _. e ∙ ap (λ (y : Sending). sending (y .answer) 0 0 0) (sym e))
+      front : Front.Frame (frameIn (g .head) (g .rest)) ≡ Front.Frame (frameFrom (hostedIn m .sender) (hostedIn m .receiver) x)
+      unfolding hostedIn endIn
+      front = ap (λ (f : Frame). Front.Frame f) (frame .0)
+
+      pub sends-frame : x ≢ Source.Nothing → Sends m (ys ++ drop end-words m) (sending 0 (g .detail) (g .head) (g .rest))
+          × Leaves (isHosted m) m (ys ++ drop end-words m) (sendOf (hostedIn m) .end)
+      sends-frame some =
+          rw (back-patched m 0 end-words ys l)
+          (sends (patched m 0 ys) (sending 0 (g .detail) (g .head) (g .rest)) (length-patched m 0 ys (omega arith))
+          (rw (after, front, frame .1) (sym (is ∙ some-given (hostedIn m) x some))) (λ n. absurd (true≢false n)))
 
 -- ---- the shape, and how often the link was trained again
 
 pub shape-none : (m : List ℕ) → (length m ≡ hosted-words → ⊥) → 10 ≡ shapeAnswer m
 shape-none m h = rw (ne-eqb (length m) hosted-words h)
 
-pub shape-is : (m : List ℕ) → length m ≡ hosted-words → (l : Setup) → l ≡ setupIn (part m end-words setup-words) → (e : End) → e ≡ endIn l (part m 0 end-words)
+pub shape-is : (m : List ℕ) → length m ≡ hosted-words → (l : Setup) → l ≡ linkIn m → (e : End) → e ≡ endIn l (part m 0 end-words)
     → (t b : Bool) → t ≡ inShape e → t ≡ b → (if b then 0 else 10) ≡ shapeAnswer m
 shape-is m long l el e ee t b et eb =
     let s : inShape (hostedIn m) ≡ b = ap inShape (hosted-is m long l el ∙ sym ee) ∙ sym et ∙ eb in

@@ -277,7 +277,7 @@ arrive-leaves e f = go (eqb (frameAnswer (e .setup .n) f) 0)
 
 -- ---- Send
 
-some-given : (e : End) (x : Source) → x ≢ Source.Nothing → sentFrom e x ≡ given e x
+pub some-given : (e : End) (x : Source) → x ≢ Source.Nothing → sentFrom e x ≡ given e x
 some-given e Source.Nak n = refl
 some-given e Source.Ack n = refl
 some-given e (Source.Update i) n = refl

@@ -2,7 +2,10 @@
 -- Assumes that the words of the end, or of its half, are all there.
 use Prim.Native.Nat.{ℕ, _+_, _*_, _<_}
 use mathlib.Core.Path.{_≡_, refl, sym, ap, _∙_}
-use mathlib.Core.List.{List, _++_}
+use mathlib.Core.List.{List, [], _∷_, _++_}
+use mathlib.Core.Logic.{_≢_}
+use types.Run.{OneOf, miss}
+use denote.Enum.Declared.{tagOf}
 use native.Mathlib.Omega.{arith}
 use lib.ListN.{length, take, drop, length-map}
 use Rattle.basics.specs.declared.Found.{Found}
@@ -38,6 +41,7 @@ use Rattle.words.specs.Memory.{sender-words, receiver-words, end-words, rooms-a
 use Rattle.words.proofs.Round.{packet-frame-round}
 use Rattle.words.proofs.Patched.{back-patched, length-part}
 use Rattle.words.proofs.Whole.{sending-put, sending-leaves, sending-keeps, receiving-put, receiving-leaves, receiving-keeps}
+use Rattle.memory.proofs.Source.{the-type}
 use Rattle.memory.specs.declared.Given.{Given}
 use Rattle.memory.specs.declared.Source.{Source}
 use Rattle.memory.specs.declared.Source.the-variants as Source
@@ -75,6 +79,10 @@ sends-as e = go (e .receiver .reply .owed) (firstMarked (e .receiver)) (e .sende
     go Owed.Nothing Found.Nothing (Found.At i) n = refl
     go Owed.Nothing Found.Nothing Found.Nothing (New.At channel place) = refl
     go Owed.Nothing Found.Nothing Found.Nothing New.Nothing = refl
+
+-- a source that a test for no source let through
+pub some : (x : Source) → OneOf (0 ∷ 1 ∷ 2 ∷ 3 ∷ 4 ∷ []) (tagOf the-type x) → x ≢ Source.Nothing
+some x k e = miss (0 ∷ 1 ∷ 2 ∷ 3 ∷ 4 ∷ []) 5 tt (rw e at k)
 
 -- ---- the slot of an update, the channel of a new packet
 

@@ -49,8 +49,11 @@ setupIn x = record { n = getD x 0 0 % 256; classes = map classIn (part x 1 7); u
 abbrev pub hosted-words : ℕ
 hosted-words = 506
 
+abbrev pub linkIn : List ℕ → Setup
+linkIn m = setupIn (part m end-words setup-words)
+
 unfoldable pub hostedIn : List ℕ → End
-hostedIn m = endIn (setupIn (part m end-words setup-words)) (part m 0 end-words)
+hostedIn m = endIn (linkIn m) (part m 0 end-words)
 
 -- memory of another length holds no end
 abbrev pub isHosted : List ℕ → Bool

@@ -1,16 +1,16 @@
 // One end for a host in C or Rust, kept in the host's memory as words and stepped there with no copy. A struct behind a reference that
 // holds an enum cannot be exported, so the words are lent: the end's, then those of its setup. No step looks at the shape of the end:
 // `end_shape` does. Assumes nothing: memory of another length is refused, and nothing changes.
+use crate::END;
 use crate::Said;
-use crate::receiving::RECEIVER;
+use crate::Source;
+use crate::bare;
 use crate::sending::SENDER;
 use crate::setups::SETUP;
 use ends::End;
-use frames::Frame;
 use packets::Packet;
 use pairs::Pair;
 use setup::Setup;
-use words::frame_in;
 ghost use mathlib.Core.Path.{_≡_};
 ghost use Prim.Native.Nat.{_≤_};
 ghost use lib.Dec.{eqb};
@@ -19,12 +19,9 @@ ghost use Rattle.ends.specs.Ends.{submitOf, arriveOf, damageOf, takeAt, timerOf
 ghost use Rattle.ends.specs.Sends.{sendOf};
 ghost use Rattle.pairs.specs.Pairs.{endAt, startOf};
 ghost use Rattle.words.specs.Words.{frameIn};
-ghost use Rattle.memory.specs.Said.{said};
 ghost use Rattle.memory.specs.Hosted.{hosted-words, hostedIn, isHosted, answerIn, saidIn, packet, Leaves, sending, Sends, startAnswer, startedEnd, shapeAnswer, retrainsIn};
 
-// The words of an end, and those with its setup behind it.
-const END: usize = SENDER + RECEIVER;
-
+// The words of an end and its setup.
 const HOSTED: usize = END + SETUP;
 
 // What Send says. A frame is two words; where there is none, both are 0.
@@ -34,12 +31,6 @@ pub struct Sending {
     pub detail: u32,
     pub head: u64,
     pub rest: u64,
-}
-
-fn refused(answer: u8) -> Said
-    ensures { λ r. ⌜ r ≡ said answer 0 ⌝ }
-{
-    Said { answer, detail: 0 }
 }
 
 fn no_frame(answer: u8) -> Sending
@@ -79,7 +70,7 @@ pub extern "C" fn end_arrive(m: &mut [u64], head: u64, rest: u64) -> Said
     ensures { λ _. ⌜ Leaves (isHosted (now (m .entry))) (now (m .entry)) (now (m .exit)) (arriveOf (hostedIn (now (m .entry))) (frameIn head rest) .end) ⌝ }
 {
     if m.len() != HOSTED {
-        return refused(10);
+        return bare(10);
     }
     let link = crate::setups::setup_in(&m[END..HOSTED]);
     crate::one_end::arrive(&mut m[0..END], link, head, rest)
@@ -92,15 +83,9 @@ pub extern "C" fn end_damage(m: &mut [u64], head: u64, rest: u64) -> Said
     ensures { λ _. ⌜ Leaves (isHosted (now (m .entry))) (now (m .entry)) (now (m .exit)) (damageOf (hostedIn (now (m .entry))) (frameIn head rest) .end) ⌝ }
 {
     if m.len() != HOSTED {
-        return refused(10);
+        return bare(10);
     }
-    if let Frame::Packet(_, _) = frame_in(head, rest) {
-        crate::receiving::damage(&mut m[SENDER..END]);
-    }
-    Said {
-        answer: 0,
-        detail: 4,
-    }
+    crate::one_end::damage(&mut m[0..END], head, rest)
 }
 
 // The oldest packet of a channel and category leaves.
@@ -110,10 +95,10 @@ pub extern "C" fn end_take(m: &mut [u64], channel: u8, category: u8) -> Said
     ensures { λ _. ⌜ Leaves (isHosted (now (m .entry))) (now (m .entry)) (now (m .exit)) (takeAt (hostedIn (now (m .entry))) channel category .end) ⌝ }
 {
     if m.len() != HOSTED {
-        return refused(10);
+        return bare(10);
     }
     let n = crate::setups::n_in(&m[END..HOSTED]);
-    crate::receiving::take(&mut m[SENDER..END], n, channel, category)
+    crate::one_end::take(&mut m[0..END], n, channel, category)
 }
 
 #[no_mangle]
@@ -124,7 +109,7 @@ pub extern "C" fn end_timer(m: &mut [u64]) -> u8
     if m.len() != HOSTED {
         return 10;
     }
-    crate::sending::timer(&mut m[0..SENDER])
+    crate::one_end::timer(&mut m[0..END])
 }
 
 #[no_mangle]
@@ -136,7 +121,7 @@ pub extern "C" fn end_refresh(m: &mut [u64]) -> u8
         return 10;
     }
     let n = crate::setups::n_in(&m[END..HOSTED]);
-    crate::receiving::refresh(&mut m[SENDER..END], n);
+    crate::one_end::refresh(&mut m[0..END], n);
     0
 }
 
@@ -150,10 +135,10 @@ pub extern "C" fn end_send(m: &mut [u64]) -> Sending
         return no_frame(10);
     }
     let x = crate::sources::first_source(&m[0..END]);
-    let g = crate::sources::give(&mut m[0..END], x);
-    if g.detail == 0 {
+    if let Source::Nothing = x {
         return no_frame(18);
     }
+    let g = crate::sources::give(&mut m[0..END], x);
     Sending {
         answer: 0,
         detail: g.detail,

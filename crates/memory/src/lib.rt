@@ -33,7 +33,7 @@ ghost use Rattle.memory.specs.Unasked.{setupsOf, endStep, unasked};
 // The words of a pair: two ends, then two lines.
 pub const WORDS: usize = 1014;
 // The words of an end.
-const END: usize = 474;
+const END: usize = sending::SENDER + receiving::RECEIVER;
 // Where the lines stand.
 const LINES_AT: usize = 948;
 
@@ -61,7 +61,8 @@ pub struct Given {
     pub detail: u32,
 }
 
-fn refused(answer: u8) -> Said
+// An answer without detail.
+fn bare(answer: u8) -> Said
     ensures { λ r. ⌜ r ≡ said answer 0 ⌝ }
 {
     Said { answer, detail: 0 }
@@ -77,10 +78,10 @@ fn send_at(m: &mut [u64], links: [Setup; 2], i: usize) -> Said
     let l = LINES_AT + LINE * (1 - i);
     let x = sources::first_source(&m[e..e + END]);
     if let Source::Nothing = x {
-        return refused(18);
+        return bare(18);
     }
     if lines::is_full(&m[l..l + LINE]) {
-        return refused(17);
+        return bare(17);
     }
     let g = sources::give(&mut m[e..e + END], x);
     lines::put(&mut m[l..l + LINE], g.head, g.rest);
@@ -99,13 +100,13 @@ fn arrive_at(m: &mut [u64], links: [Setup; 2], i: usize) -> Said
     let e = END * i;
     let l = LINES_AT + LINE * i;
     if m[l + ON_IT] == 0 {
-        return refused(19);
+        return bare(19);
     }
     let head = m[l];
     let rest = m[l + 1];
     let s = one_end::arrive(&mut m[e..e + END], links[i], head, rest);
     if s.answer != 0 {
-        return refused(s.answer);
+        return bare(s.answer);
     }
     lines::leave(&mut m[l..l + LINE]);
     s
@@ -120,16 +121,13 @@ fn damage_at(m: &mut [u64], links: [Setup; 2], i: usize) -> Said
     let e = END * i;
     let l = LINES_AT + LINE * i;
     if m[l + ON_IT] == 0 {
-        return refused(19);
+        return bare(19);
     }
     let head = m[l];
     let rest = m[l + 1];
-    one_end::damage(&mut m[e..e + END], links[i], head, rest);
+    let s = one_end::damage(&mut m[e..e + END], head, rest);
     lines::leave(&mut m[l..l + LINE]);
-    Said {
-        answer: 0,
-        detail: 4,
-    }
+    s
 }
 
 // That frame vanishes.
@@ -140,10 +138,10 @@ fn lose_at(m: &mut [u64], links: [Setup; 2], i: usize) -> Said
 {
     let l = LINES_AT + LINE * i;
     if m[l + ON_IT] == 0 {
-        return refused(19);
+        return bare(19);
     }
     lines::leave(&mut m[l..l + LINE]);
-    refused(0)
+    bare(0)
 }
 
 // A step of the end of these words alone: Submit, Take, Timer; else Refresh.
@@ -153,18 +151,18 @@ fn step_end(m: &mut [u64], link: Setup, t: Step) -> Said
     ensures { λ _. ⌜ length (now (m .exit)) ≡ end-words ⌝ }
 {
     if t.step == 1 {
-        return refused(one_end::submit(m, link, pairs::packet_of(t)));
+        return bare(one_end::submit(m, link, pairs::packet_of(t)));
     }
     if t.step == 6 {
         let channel = pairs::capped(255, t.class);
         let category = pairs::capped(255, t.kind);
-        return one_end::take(m, link, channel as u8, category as u8);
+        return one_end::take(m, link.n, channel as u8, category as u8);
     }
     if t.step == 7 {
-        return refused(one_end::timer(m, link));
+        return bare(one_end::timer(m));
     }
-    one_end::refresh(m, link);
-    refused(0)
+    one_end::refresh(m, link.n);
+    bare(0)
 }
 
 // The step, of an end there is, in form.
@@ -197,13 +195,13 @@ pub fn step(m: &mut [u64], links: [Setup; 2], t: Step) -> Said
     ensures { λ _. ⌜ length (now (m .exit)) ≡ length (now (m .entry)) ⌝ }
 {
     if m.len() != WORDS {
-        return refused(10);
+        return bare(10);
     }
     if 1 < t.end {
-        return refused(11);
+        return bare(11);
     }
     if !script::formed(t) {
-        return refused(6);
+        return bare(6);
     }
     act(m, links, t)
 }

@@ -1,7 +1,6 @@
 // A line in lent words: its oldest frame, one frame more, and what is left without the oldest.
 // Assumes that its 33 words are lent: two for each of 16 frames, and the length.
 ghost use mathlib.Core.Path.{_≡_};
-ghost use lib.Dec.{eqb};
 ghost use lib.ListN.{length};
 ghost use Rattle.line.specs.Line.{isFull, put, restOf};
 ghost use Rattle.words.specs.Words.{frameIn};
@@ -19,13 +18,6 @@ pub fn is_full(l: &[u64]) -> bool
     ensures { λ r. ⌜ r ≡ isFull (lineIn (now (l .entry))) ⌝ }
 {
     16 <= l[ON_IT]
-}
-
-pub fn is_empty(l: &[u64]) -> bool
-    requires { ⌜ length (now l) ≡ line-words ⌝ }
-    ensures { λ r. ⌜ r ≡ eqb (lineIn (now (l .entry)) .len) 0 ⌝ }
-{
-    l[ON_IT] == 0
 }
 
 // One more frame at its end, of these two words, unless it is full.

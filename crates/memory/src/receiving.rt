@@ -1,6 +1,7 @@
 // The receiving half of an end in lent words: its receive buffers, rooms and reply, what arrives there, and Take.
 // Assumes that its 211 words are lent: four lists, twelve rooms, the reply.
 use crate::Said;
+use crate::bare;
 use crate::lists::LIST;
 use basics::Found;
 use counters::Order;
@@ -194,12 +195,6 @@ pub fn refresh(r: &mut [u64], n: u8)
     }
 }
 
-fn refused(answer: u8) -> Said
-    ensures { λ r. ⌜ r ≡ said answer 0 ⌝ }
-{
-    Said { answer, detail: 0 }
-}
-
 // The place of a category of a channel among the rooms.
 fn slot_of(channel: usize, c: Category) -> usize
     requires { ⌜ channel < channels ⌝ }
@@ -269,12 +264,12 @@ fn in_sequence(r: &mut [u64], channel: usize, w: u64) -> Said
     ensures { λ _. ⌜ length (now (r .exit)) ≡ receiver-words ⌝ }
 {
     if channel >= CHANNELS {
-        return refused(26);
+        return bare(26);
     }
     let p = packet_in(w);
     let slot = slot_of(channel, p.category());
     if room_in(room(r, slot)).room_answer(p.need()) != 0 {
-        return refused(26);
+        return bare(26);
     }
     store(r, channel, w);
     Said {
@@ -339,10 +334,10 @@ fn take_of(r: &mut [u64], channel: usize, c: Category) -> Said
     ensures { λ _. ⌜ length (now (r .exit)) ≡ receiver-words ⌝ }
 {
     let Found::At(place) = oldest(r, channel, c) else {
-        return refused(21);
+        return bare(21);
     };
     if delivery::is_before(oldest(r, channel, Category::Posted), place) {
-        return refused(22);
+        return bare(22);
     }
     let p = packet_in(hand_out(r, channel, c, place));
     Said {
@@ -358,14 +353,14 @@ pub fn take(r: &mut [u64], n: u8, channel: u8, category: u8) -> Said
     ensures { λ _. ⌜ length (now (r .exit)) ≡ receiver-words ⌝ }
 {
     if channel >= n {
-        return refused(20);
+        return bare(20);
     }
     let k = channel as usize;
     if k >= CHANNELS {
-        return refused(20);
+        return bare(20);
     }
     let Numbered::Category(c) = packets::category_numbered(category) else {
-        return refused(20);
+        return bare(20);
     };
     take_of(r, k, c)
 }

@@ -11,13 +11,13 @@ use Rattle.memory.proofs.arrive_at.Tie as tie
 returns : tie.Need-returns
 returns c =
     let i = c .before in let a = i .before .before .before in
-    reach-none (a .args .t2) (now (a .args .m)) (a .pre .0) (a .args .i) (a .pre .1) arriveOf _ (i .if1 .taken) (c .refused .ensures)
+    reach-none (a .args .t2) (now (a .args .m)) (a .pre .0) (a .args .i) (a .pre .1) arriveOf _ (i .if1 .taken) (c .bare .ensures)
 
 returns-2 : tie.Need-returns-2
 returns-2 c =
     let j = c .before in let s = j .before .before .before .before in let i = s .before .before .before .before .before in let a = i .before .before .before in
     reach-refused (a .args .t2) (now (a .args .m)) (a .pre .0) (a .args .i) (a .pre .1) (i .if1 .left) _ (own-setup (a .args .t2) (a .args .i) (omega arith)) arriveOf (s .arrive .last .0) (s .arrive .ensures .0 .1) (s .arrive .ensures .1)
-    (arrive-leaves _ _) (s .arrive .result) _ (s .arrive .ensures .0 .0) (j .if2 .taken) (c .refused2 .ensures)
+    (arrive-leaves _ _) (s .arrive .result) _ (s .arrive .ensures .0 .0) (j .if2 .taken) (c .bare2 .ensures)
 
 returns-3 : tie.Need-returns-3
 returns-3 c =

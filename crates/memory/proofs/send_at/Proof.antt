@@ -2,33 +2,23 @@
 -- Assumes nothing.
 use borrow.Author.Needs.{needs}
 use denote.Ref.{now}
-use mathlib.Core.List.{[], _∷_}
-use mathlib.Core.Logic.{_≢_}
-use types.Run.{OneOf, miss}
-use denote.Enum.Declared.{tagOf}
-use Rattle.memory.proofs.Source.{the-type}
-use Rattle.memory.specs.declared.Source.{Source}
-use Rattle.memory.specs.declared.Source.the-variants as Source
 use native.Mathlib.Omega.{arith}
 use Rattle.words.specs.Memory.{end-words}
+use Rattle.memory.proofs.SourceLaws.{some}
 use Rattle.memory.proofs.PairLaws.{end-at, lent-long, send-none, send-full, send-gives}
 use Rattle.memory.proofs.send_at.Statement.{statement}
 use Rattle.memory.proofs.send_at.Tie as tie
 
--- a source that the test let through
-some : (x : Source) → OneOf (0 ∷ 1 ∷ 2 ∷ 3 ∷ 4 ∷ []) (tagOf the-type x) → x ≢ Source.Nothing
-some x k e = miss (0 ∷ 1 ∷ 2 ∷ 3 ∷ 4 ∷ []) 5 tt (rw e at k)
-
 returns : tie.Need-returns
 returns c =
     let e = c .before in let x = e .before .before in let a = x .before .before .before .before in
-    send-none (a .args .links) (now (a .args .m)) (a .pre .0) (a .args .i) (a .pre .1) (x .first-source .result) (x .first-source .ensures) _ (e .enum-told .given .1) (c .refused .ensures)
+    send-none (a .args .links) (now (a .args .m)) (a .pre .0) (a .args .i) (a .pre .1) (x .first-source .result) (x .first-source .ensures) _ (e .enum-told .given .1) (c .bare .ensures)
 
 returns-2 : tie.Need-returns-2
 returns-2 c =
     let i = c .before in let f = i .before in let m = f .before .before .before in let x = m .before in let a = x .before .before .before .before in
     send-full (a .args .links) (now (a .args .m)) (a .pre .0) (a .args .i) (a .pre .1) (x .first-source .result) (x .first-source .ensures) (some _ (m .match .keys2))
-    _ (f .is-full .ensures) _ (i .if1 .taken) (c .refused2 .ensures)
+    _ (f .is-full .ensures) _ (i .if1 .taken) (c .bare2 .ensures)
 
 give-requires : tie.Need-give-requires
 give-requires c κs =

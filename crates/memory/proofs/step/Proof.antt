@@ -9,17 +9,17 @@ use Rattle.memory.proofs.step.Tie as tie
 returns : tie.Need-returns
 returns c =
     let i = c .before in let a = i .before .before .args in
-    wrong-length (a .links) (now (a .m)) (a .t) (i .if1 .taken) _ (c .refused .ensures)
+    wrong-length (a .links) (now (a .m)) (a .t) (i .if1 .taken) _ (c .bare .ensures)
 
 returns-2 : tie.Need-returns-2
 returns-2 c =
     let j = c .before in let i = j .before .before in let a = i .before .before .args in
-    no-end (a .links) (now (a .m)) (a .t) (i .if1 .left) (j .if2 .taken) _ (c .refused2 .ensures)
+    no-end (a .links) (now (a .m)) (a .t) (i .if1 .left) (j .if2 .taken) _ (c .bare2 .ensures)
 
 returns-3 : tie.Need-returns-3
 returns-3 c =
     let k = c .before in let f = k .before in let j = f .before in let i = j .before .before in let a = i .before .before .args in
-    no-form (a .links) (now (a .m)) (a .t) (i .if1 .left) (j .if2 .left) _ (f .formed .ensures) (k .if3 .taken) _ (c .refused3 .ensures)
+    no-form (a .links) (now (a .m)) (a .t) (i .if1 .left) (j .if2 .left) _ (f .formed .ensures) (k .if3 .taken) _ (c .bare3 .ensures)
 
 returns-4 : tie.Need-returns-4
 returns-4 c =

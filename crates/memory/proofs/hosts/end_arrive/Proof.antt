@@ -11,7 +11,7 @@ use Rattle.memory.proofs.hosts.end_arrive.Statement.{statement}
 use Rattle.memory.proofs.hosts.end_arrive.Tie as tie
 
 returns : tie.Need-returns
-returns c = refuses saidStepped (said 10 0) (now (c .before .before .before .args .m)) _ _ (c .before .if1 .taken) (c .refused .ensures)
+returns c = refuses saidStepped (said 10 0) (now (c .before .before .before .args .m)) _ _ (c .before .if1 .taken) (c .bare .ensures)
 
 returns-2 : tie.Need-returns-2
 returns-2 c =

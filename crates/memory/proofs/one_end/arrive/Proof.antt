@@ -9,7 +9,7 @@ use Rattle.memory.proofs.one_end.arrive.Tie as tie
 returns : tie.Need-returns
 returns c =
     let i = c .before in let f = i .before .before in let a = f .before .before in
-    arrive-refused (a .args .link) (now (a .args .m)) (a .pre) _ _ (f .frame-in .ensures) _ (i .before .answer .ensures) (i .if1 .taken) _ (c .answered .ensures)
+    arrive-refused (a .args .link) (now (a .args .m)) (a .pre) _ _ (f .frame-in .ensures) _ (i .before .answer .ensures) (i .if1 .taken) _ (c .bare .ensures)
 
 returns-2 : tie.Need-returns-2
 returns-2 c =
@@ -24,7 +24,7 @@ returns-3 c =
     let h = c .before .before .before in let x = h .before .before .before in let i = x .before .before in let f = i .before .before in
     let a = f .before .before in
     arrive-message (a .args .link) (now (a .args .m)) (a .pre) _ _ (f .frame-in .ensures) _ (i .before .answer .ensures) (i .if1 .left)
-    _ (x .f2 .given .1) (h .hear .result) _ (c .answered2 .ensures) (h .hear .last .0) (h .hear .ensures)
+    _ (x .f2 .given .1) (h .hear .result) _ (c .bare2 .ensures) (h .hear .last .0) (h .hear .ensures)
 
 pub arrive-spec : {M : Type 1} → statement M
 arrive-spec = tie.close (tie.spec (λ c κs. search needs) (λ c κs. search needs) (λ c κs. search needs) returns (λ c. search needs) (λ c κs. search needs) (λ c. search needs) (λ c. search needs) (λ c. search needs) (λ c. search needs) (λ c κs. search needs) (λ c. search needs) (λ c. search needs) (λ c. search needs) (λ c. search needs) (λ c κs. search needs) (λ c κs. search needs) (λ c. search needs) returns-2 (λ c. search needs) returns-3)

@@ -3,7 +3,8 @@
 use borrow.Author.Needs.{needs}
 use denote.Ref.{now}
 use Rattle.words.specs.Memory.{endIn}
-use Rattle.memory.proofs.EndLaws.{by-sender}
+use Rattle.setup.specs.declared.Setup.{Setup}
+use Rattle.memory.proofs.EndLaws.{sending-long, by-sender}
 use Rattle.memory.proofs.one_end.timer.Statement.{statement}
 use Rattle.memory.proofs.one_end.timer.Tie as tie
 
@@ -11,7 +12,8 @@ returns : tie.Need-returns
 unfolding endIn
 returns c =
     let t = c .before .before in let a = t .before .before .before in
-    by-sender (a .args .link) (now (a .args .m)) (a .pre) (t .timer .last .0) _ (t .timer .result) (t .timer .ensures)
+    let m = now (a .args .m) in let w = t .timer .last .0 in
+    (λ (link : Setup). by-sender link m (a .pre) w _ (t .timer .result) (t .timer .ensures) .0, sending-long m (a .pre) w (t .timer .ensures .1))
 
 pub timer-spec : {M : Type 1} → statement M
 timer-spec = tie.close (tie.spec (λ c. search needs) (λ c. search needs) (λ c. search needs) (λ c κs. search needs) (λ c. search needs) returns)

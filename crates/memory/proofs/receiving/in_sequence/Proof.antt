@@ -14,7 +14,7 @@ returns : tie.Need-returns
 returns c =
     let a = c .before .before .before in
     let s = both (past-channels (receiverIn (a .args .r .now)) (a .args .channel) (packetIn (a .args .w)) (c .before .if1 .taken)) in
-    ((c .refused .ensures ∙ s .0, s .1), a .pre)
+    ((c .bare .ensures ∙ s .0, s .1), a .pre)
 
 returns-2 : tie.Need-returns-2
 returns-2 c =
@@ -24,7 +24,7 @@ returns-2 c =
     let s = both (over-room (receiverIn (a .args .r .now)) (a .args .channel) (packetIn (a .args .w)) (p .before .before .before .if1 .left) _ _ _ _ _
     (p .before .before .packet-in .ensures) (p .slot-of .ensures .0 ∙ ap (slotOf (a .args .channel)) (p .before .category .ensures))
     (m .before .before .room-in .ensures ∙ m .before .before .before .room .ensures) (m .before .need .ensures) (m .room-answer .ensures) (ne-eqb _ _ (c .before .if2 .taken))) in
-    ((c .refused2 .ensures ∙ s .0, s .1), a .pre)
+    ((c .bare2 .ensures ∙ s .0, s .1), a .pre)
 
 returns-3 : tie.Need-returns-3
 returns-3 c =

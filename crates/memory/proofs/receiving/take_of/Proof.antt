@@ -15,7 +15,7 @@ returns c =
     let o = c .before .before .before in
     let a = o .before .before .before in
     let s = both (none-waits (receiverIn (a .args .r .now)) (a .args .channel) (a .args .c) _ (o .oldest .ensures) (c .before .enum-told .given .1)) in
-    ((c .refused .ensures ∙ s .0, s .1), a .pre .0)
+    ((c .bare .ensures ∙ s .0, s .1), a .pre .0)
 
 returns-2 : tie.Need-returns-2
 returns-2 c =
@@ -24,7 +24,7 @@ returns-2 c =
     let a = o .before .before .before in
     let s = both (posted-waits (receiverIn (a .args .r .now)) (a .args .channel) (a .args .c) _ (o .oldest .ensures) _ (b .before .before .before .before .place .given .1) _
     (rw (b .before .oldest2 .ensures) at (b .is-before .ensures)) (c .before .if1 .taken)) in
-    ((c .refused2 .ensures ∙ s .0, s .1), a .pre .0)
+    ((c .bare2 .ensures ∙ s .0, s .1), a .pre .0)
 
 returns-3 : tie.Need-returns-3
 returns-3 c =
