@@ -9,6 +9,7 @@ use borrow.Author.Tests.{ne-eqb, lt-ltb, le-ltb, le-leb, lt-leb}
 use lib.Dec.{eqb}
 use lib.ListN.{length, take, drop}
 use Rattle.basics.specs.Choice.{if_then_else_, firstOf}
+use Rattle.basics.specs.Parts.{part}
 use Rattle.counters.specs.declared.Counts.{Counts}
 use Rattle.counters.specs.declared.Seq.{Seq}
 use Rattle.packets.specs.declared.Category.{Category}
@@ -38,7 +39,8 @@ use Rattle.words.specs.Memory.{sender-words, receiver-words, end-words, senderI
 use Rattle.words.proofs.Patched.{back-patched}
 use Rattle.words.proofs.Whole.{put-sending, sending-keeps, put-receiving, receiving-keeps}
 use Rattle.memory.specs.declared.Said.{Said}
-use Rattle.memory.specs.Said.{said, saidGot, saidStepped}
+use Rattle.memory.specs.Said.{said, saidGot, saidStepped, Keeps}
+use Rattle.memory.proofs.KeepLaws.{made, keeps-said, keeps-back}
 
 -- ---- Submit's answer
 
@@ -77,24 +79,31 @@ module _ (e : End) (p : Packet) (a : ℕ) (form : a ≡ packetAnswer p) where
         pub no-refusal : n < 8 → 0 ≡ submitAnswer e p
         no-refusal h = sym (not-much ∙ rw (waits-is, lt-leb 8 n h))
 
--- ---- what a step leaves: its answer, the end, and how many words
+-- ---- what a step leaves: its answer, the end, how many words, and all words where it is refused
 
-abbrev Leaves : Setup → List ℕ → End → Type 0
-Leaves link w e = (endIn link w ≡ e) × (length w ≡ end-words)
+abbrev Lasts : List ℕ → List ℕ → Bool → Type 0
+Lasts m w t = (length w ≡ end-words) × Keeps t m w
 
-abbrev Answers : Setup → List ℕ → ℕ → Stepped → Type 0
-Answers link w r s = ((r ≡ s .answer) × (endIn link w ≡ s .end)) × (length w ≡ end-words)
+abbrev Answers : Setup → List ℕ → List ℕ → ℕ → Stepped → Type 0
+Answers link m w r s = ((r ≡ s .answer) × (endIn link w ≡ s .end)) × Lasts m w (eqb r 0)
 
-abbrev Says : Setup → List ℕ → Said → Stepped → Type 0
-Says link w r s = ((r ≡ saidStepped s) × (endIn link w ≡ s .end)) × (length w ≡ end-words)
+abbrev Says : Setup → List ℕ → List ℕ → Said → Stepped → Type 0
+Says link m w r s = ((r ≡ saidStepped s) × (endIn link w ≡ s .end)) × Lasts m w (eqb (r .answer) 0)
 
--- how many words, where a half comes back
+-- a half comes back to the words
 module _ (m : List ℕ) (long : length m ≡ end-words) (ys : List ℕ) where
   pub sending-long : length ys ≡ sender-words → length (ys ++ drop sender-words m) ≡ end-words
   sending-long k = rw (back-patched m 0 sender-words ys k) (sending-keeps m long ys k)
 
   pub receiving-long : length ys ≡ receiver-words → length (take sender-words m ++ (ys ++ drop receiver-words (drop sender-words m))) ≡ end-words
   receiving-long k = rw (back-patched m sender-words receiver-words ys k) (receiving-keeps m long ys k)
+
+  pub sending-lasts : (t : Bool) → (length ys ≡ sender-words) × Keeps t (part m 0 sender-words) ys → Lasts m (ys ++ drop sender-words m) t
+  sending-lasts t h = (sending-long (h .0), keeps-back m 0 sender-words ys t (h .1))
+
+  pub receiving-lasts : (t : Bool) → (length ys ≡ receiver-words) × Keeps t (part m sender-words receiver-words) ys
+      → Lasts m (take sender-words m ++ (ys ++ drop receiver-words (drop sender-words m))) t
+  receiving-lasts t h = (receiving-long (h .0), keeps-back m sender-words receiver-words ys t (h .1))
 
 module _ (link : Setup) (m : List ℕ) (long : length m ≡ end-words) where
   abbrev it : End
@@ -108,65 +117,64 @@ module _ (link : Setup) (m : List ℕ) (long : length m ≡ end-words) where
     abbrev with-receiving : List ℕ
     with-receiving = take sender-words m ++ (ys ++ drop receiver-words (drop sender-words m))
 
-    pub sending-back : (s : Sender) → (senderIn ys ≡ s) × (length ys ≡ sender-words) → Leaves link with-sending (end link s (receivingIn m))
+    sending-back : (s : Sender) → senderIn ys ≡ s → length ys ≡ sender-words → endIn link with-sending ≡ end link s (receivingIn m)
     unfolding endIn
-    sending-back s h =
-        rw (back-patched m 0 sender-words ys (h .1))
-        (put-sending m long ys (h .1) link ∙ ap (λ (x : Sender). end link x (receivingIn m)) (h .0), sending-keeps m long ys (h .1))
+    sending-back s is k =
+        rw (back-patched m 0 sender-words ys k) (put-sending m long ys k link ∙ ap (λ (x : Sender). end link x (receivingIn m)) is)
 
-    pub receiving-back : (r : Receiver) → (receiverIn ys ≡ r) × (length ys ≡ receiver-words) → Leaves link with-receiving (end link (sendingIn m) r)
+    receiving-back : (r : Receiver) → receiverIn ys ≡ r → length ys ≡ receiver-words → endIn link with-receiving ≡ end link (sendingIn m) r
     unfolding endIn
-    receiving-back r h =
-        rw (back-patched m sender-words receiver-words ys (h .1))
-        (put-receiving m long ys (h .1) link ∙ ap (λ (x : Receiver). end link (sendingIn m) x) (h .0), receiving-keeps m long ys (h .1))
+    receiving-back r is k =
+        rw (back-patched m sender-words receiver-words ys k) (put-receiving m long ys k link ∙ ap (λ (x : Receiver). end link (sendingIn m) x) is)
 
-    pub by-sender : (t : Told) (r : ℕ) → ((r ≡ t .answer) × (senderIn ys ≡ t .sender)) × (length ys ≡ sender-words)
-        → Answers link with-sending r (bySender it t)
+    pub by-sender : (t : Told) (r : ℕ) → ((r ≡ t .answer) × (senderIn ys ≡ t .sender)) × ((length ys ≡ sender-words) × Keeps (eqb r 0) (part m 0 sender-words) ys)
+        → Answers link m with-sending r (bySender it t)
     unfolding endIn
-    by-sender t r h = let b = sending-back (t .sender) (h .0 .1, h .1) in ((h .0 .0, b .0), b .1)
+    by-sender t r h = ((h .0 .0, sending-back (t .sender) (h .0 .1) (h .1 .0)), sending-lasts m long ys (eqb r 0) (h .1))
 
-    pub by-receiver : (g : Got) (r : Said) → ((r ≡ saidGot g) × (receiverIn ys ≡ g .receiver)) × (length ys ≡ receiver-words)
-        → Says link with-receiving r (byReceiver it g)
+    pub by-receiver : (g : Got) (r : Said)
+        → ((r ≡ saidGot g) × (receiverIn ys ≡ g .receiver)) × ((length ys ≡ receiver-words) × Keeps (eqb (r .answer) 0) (part m sender-words receiver-words) ys)
+        → Says link m with-receiving r (byReceiver it g)
     unfolding endIn
-    by-receiver g r h = let b = receiving-back (g .receiver) (h .0 .1, h .1) in ((h .0 .0, b .0), b .1)
+    by-receiver g r h = ((h .0 .0, receiving-back (g .receiver) (h .0 .1) (h .1 .0)), receiving-lasts m long ys (eqb (r .answer) 0) (h .1))
 
     -- a step that asks for the number of channels
     module _ (n : ℕ) (of : n ≡ link .n) where
       pub takes : (channel category : ℕ) (r : Said)
-          → ((r ≡ saidGot (takeOf (receivingIn m) n channel category)) × (receiverIn ys ≡ takeOf (receivingIn m) n channel category .receiver)) × (length ys ≡ receiver-words)
-          → Says link with-receiving r (takeAt it channel category)
+          → ((r ≡ saidGot (takeOf (receivingIn m) n channel category)) × (receiverIn ys ≡ takeOf (receivingIn m) n channel category .receiver))
+          × ((length ys ≡ receiver-words) × Keeps (eqb (r .answer) 0) (part m sender-words receiver-words) ys)
+          → Says link m with-receiving r (takeAt it channel category)
       unfolding endIn
       takes channel category r h = by-receiver (takeOf (receivingIn m) (link .n) channel category) r (rw of at h)
 
-      pub refreshes : (receiverIn ys ≡ refreshed (receivingIn m) n) × (length ys ≡ receiver-words) → Leaves link with-receiving (refreshOf it .end)
+      pub refreshes : (receiverIn ys ≡ refreshed (receivingIn m) n) × (length ys ≡ receiver-words) → endIn link with-receiving ≡ refreshOf it .end
       unfolding endIn refreshOf
-      refreshes h = receiving-back _ (rw of at h)
+      refreshes h = receiving-back _ (rw of at (h .0)) (h .1)
 
   -- Submit
   module _ (p : Packet) (a : ℕ) (answer : a ≡ submitAnswer it p) where
-    pub submit-refused : a ≢ 0 → Answers link m a (submitOf it p)
+    pub submit-refused : a ≢ 0 → Answers link m m a (submitOf it p)
     unfolding submitOf
     submit-refused n =
         let t : eqb (submitAnswer it p) 0 ≡ false = ne-eqb _ 0 (λ z. n (answer ∙ z)) in
-        rw t ((answer, refl), long)
+        rw t ((answer, refl), (long, λ _. refl))
 
     pub submits : a ≡ 0 → (channel w : ℕ) → channel ≡ channelOf link (p .class) → packetIn w ≡ p → (ys : List ℕ)
         → (senderIn ys ≡ submitted (sendingIn m) channel (packetIn w)) × (length ys ≡ sender-words)
-        → Answers link (ys ++ drop sender-words m) 0 (submitOf it p)
+        → Answers link m (ys ++ drop sender-words m) 0 (submitOf it p)
     unfolding submitOf endIn
     submits fine channel w on is ys h =
         let t : submitAnswer it p ≡ 0 = sym answer ∙ fine in
-        let b = sending-back ys (submitted (sendingIn m) (channelOf link (p .class)) p) (h .0 ∙ rw (on, is), h .1) in
-        rw t ((refl, b .0), b .1)
+        rw t ((refl, sending-back ys (submitted (sendingIn m) (channelOf link (p .class)) p) (h .0 ∙ rw (on, is)) (h .1)), (sending-long m long ys (h .1), made))
 
   -- a frame arrives
   module _ (f g : Frame) (same : f ≡ g) where
     module _ (a : ℕ) (answer : a ≡ frameAnswer (link .n) f) where
-      pub arrive-refused : a ≢ 0 → (r : Said) → r ≡ said 27 0 → Says link m r (arriveOf it g)
+      pub arrive-refused : a ≢ 0 → (r : Said) → r ≡ said 27 0 → Says link m m r (arriveOf it g)
       unfolding arriveOf endIn
       arrive-refused n r h =
           let t : eqb (frameAnswer (link .n) g) 0 ≡ false = ne-eqb _ 0 (λ z. n (answer ∙ rw same z)) in
-          rw t ((h, refl), long)
+          rw t ((h, refl), (long, λ _. refl))
 
       heard-is : a ≡ 0 → (x : Frame) → f ≡ x → arriveOf it g ≡ heard it x
       unfolding arriveOf endIn
@@ -176,31 +184,31 @@ module _ (link : Setup) (m : List ℕ) (long : length m ≡ end-words) where
 
       pub arrive-packet : a ≡ 0 → (number : Seq) (p q : Packet) → f ≡ Frame.Packet number p → q ≡ p → (channel : ℕ) → channel ≡ channelOf link (p .class)
           → (r : Said) (ys : List ℕ)
-          → ((r ≡ saidGot (arrives (receivingIn m) channel number q)) × (receiverIn ys ≡ arrives (receivingIn m) channel number q .receiver)) × (length ys ≡ receiver-words)
-          → Says link (take sender-words m ++ (ys ++ drop receiver-words (drop sender-words m))) r (arriveOf it g)
+          → ((r ≡ saidGot (arrives (receivingIn m) channel number q)) × (receiverIn ys ≡ arrives (receivingIn m) channel number q .receiver))
+          × ((length ys ≡ receiver-words) × Keeps (eqb (r .answer) 0) (part m sender-words receiver-words) ys)
+          → Says link m (take sender-words m ++ (ys ++ drop receiver-words (drop sender-words m))) r (arriveOf it g)
       unfolding endIn
       arrive-packet fine number p q is e channel on r ys h =
           rw (heard-is fine (Frame.Packet number p) is, sym on, sym e) (by-receiver ys (arrives (receivingIn m) channel number q) r h)
 
       pub arrive-message : a ≡ 0 → (x : Message) → f ≡ Frame.Message x → (n : ℕ) (r : Said) → r ≡ said n 0 → (ys : List ℕ)
-          → ((n ≡ hears (sendingIn m) x .answer) × (senderIn ys ≡ hears (sendingIn m) x .sender)) × (length ys ≡ sender-words)
-          → Says link (ys ++ drop sender-words m) r (arriveOf it g)
+          → ((n ≡ hears (sendingIn m) x .answer) × (senderIn ys ≡ hears (sendingIn m) x .sender))
+          × ((length ys ≡ sender-words) × Keeps (eqb n 0) (part m 0 sender-words) ys)
+          → Says link m (ys ++ drop sender-words m) r (arriveOf it g)
       unfolding endIn
       arrive-message fine x is n r e ys h =
           let b = by-sender ys (hears (sendingIn m) x) n h in
-          rw (heard-is fine (Frame.Message x) is) ((e ∙ ap (λ (k : ℕ). said k 0) (b .0 .0), b .0 .1), b .1)
+          rw (heard-is fine (Frame.Message x) is) ((e ∙ ap (λ (k : ℕ). said k 0) (b .0 .0), b .0 .1), (b .1 .0, keeps-said m _ r n 0 e (b .1 .1)))
 
     pub damage-packet : (number : Seq) (p : Packet) → f ≡ Frame.Packet number p → (ys : List ℕ)
         → (receiverIn ys ≡ damaged (receivingIn m)) × (length ys ≡ receiver-words)
-        → Says link (take sender-words m ++ (ys ++ drop receiver-words (drop sender-words m))) (said 0 4) (damageOf it g)
+        → (said 0 4 ≡ saidStepped (damageOf it g)) × (endIn link (take sender-words m ++ (ys ++ drop receiver-words (drop sender-words m))) ≡ damageOf it g .end)
     unfolding damageOf endIn
-    damage-packet number p is ys h =
-        let b = receiving-back ys (damaged (receivingIn m)) h in
-        rw (sym same, is) ((refl, b .0), b .1)
+    damage-packet number p is ys h = rw (sym same, is) (refl, receiving-back ys (damaged (receivingIn m)) (h .0) (h .1))
 
-    pub damage-message : (x : Message) → f ≡ Frame.Message x → Says link m (said 0 4) (damageOf it g)
+    pub damage-message : (x : Message) → f ≡ Frame.Message x → (said 0 4 ≡ saidStepped (damageOf it g)) × (it ≡ damageOf it g .end)
     unfolding damageOf
-    damage-message x is = rw (sym same, is) ((refl, refl), long)
+    damage-message x is = rw (sym same, is) (refl, refl)
 
 -- the second word of a packet's frame is the packet's
 abbrev packetFrom : Packet → Frame → Packet

@@ -40,6 +40,8 @@ use Rattle.memory.specs.declared.Source.the-variants as Source
 use Rattle.memory.specs.declared.hosts.Sending.{Sending}
 use Rattle.memory.specs.Sources.{sourceOf, frameFrom, senderAfter, receiverAfter, detailFrom}
 use Rattle.memory.specs.Hosted.{setup-words, units-at, unitsIn, classIn, setupIn, hosted-words, linkIn, hostedIn, isHosted, Leaves, sending, sentIn, Sends, startAnswer, startedEnd, shapeAnswer, retrainsIn}
+use Rattle.memory.specs.Said.{Keeps}
+use Rattle.memory.proofs.KeepLaws.{made, keeps-back}
 use Rattle.memory.proofs.SourceLaws.{sentFrom, sends-as}
 use Rattle.memory.proofs.PairLaws.{some-given}
 
@@ -67,39 +69,34 @@ module _ (m : List ℕ) (long : length m ≡ hosted-words) where
 
 -- ---- what a step leaves
 
-pub stays : (t : Bool) (m : List ℕ) (e : End) → t ≡ false → Leaves t m m e
-stays t m e is-not = (λ is. absurd (true≢false (sym is ∙ is-not)), (λ _. refl, refl))
-
-pub leaves : (t : Bool) (m w : List ℕ) (e : End) → t ≡ true → hostedIn w ≡ e → length w ≡ length m → Leaves t m w e
-leaves t m w e is after keeps = (λ _. after, (λ is-not. absurd (true≢false (sym is ∙ is-not)), keeps))
+pub stays : (t : Bool) (answer : ℕ) (m : List ℕ) (e : End) → t ≡ false → Leaves t answer m m e
+stays t answer m e is-not = (λ is. absurd (true≢false (sym is ∙ is-not)), (λ _. refl, refl))
 
 -- ---- a step: what it says of it, or what it says where the memory holds no end
 
-abbrev Promise : {A : Type 0} → (Stepped → A) → A → List ℕ → List ℕ → A → Stepped → Type 0
-Promise says none m w r s = (r ≡ (if isHosted m then says s else none)) × Leaves (isHosted m) m w (s .end)
+module _ {A : Type 0} (answer : A → ℕ) (says : Stepped → A) (none : A) (m : List ℕ) where
+  abbrev Promise : List ℕ → A → Stepped → Type 0
+  Promise w r s = (r ≡ (if isHosted m then says s else none)) × Leaves (isHosted m) (answer r) m w (s .end)
 
-module _ {A : Type 0} (says : Stepped → A) (none : A) (m : List ℕ) where
-  pub refuses : (s : Stepped) (r : A) → (length m ≡ hosted-words → ⊥) → r ≡ none → Promise says none m m r s
+  pub refuses : (s : Stepped) (r : A) → (length m ≡ hosted-words → ⊥) → r ≡ none → Promise m r s
   refuses s r h e =
       let t : isHosted m ≡ false = ne-eqb (length m) hosted-words h in
-      (rw t e, stays (isHosted m) m (s .end) t)
+      (rw t e, stays (isHosted m) (answer r) m (s .end) t)
 
   module _ (long : length m ≡ hosted-words) where
-    does : (w : List ℕ) (s : Stepped) (r : A) → r ≡ says s → hostedIn w ≡ s .end → length w ≡ length m → Promise says none m w r s
-    does w s r e is keeps =
-        let t : isHosted m ≡ true = eq-eqb (length m) hosted-words long in
-        (rw t e, leaves (isHosted m) m w (s .end) t is keeps)
-
     -- of the words of the end
     pub by-whole : (f : End → Stepped) (l : Setup) → l ≡ linkIn m → (r : A) (ys : List ℕ)
-        → ((r ≡ says (f (endIn l (part m 0 end-words)))) × (endIn l ys ≡ f (endIn l (part m 0 end-words)) .end)) × (length ys ≡ end-words)
-        → Promise says none m (ys ++ drop end-words m) r (f (hostedIn m))
+        → ((r ≡ says (f (endIn l (part m 0 end-words)))) × (endIn l ys ≡ f (endIn l (part m 0 end-words)) .end))
+        × ((length ys ≡ end-words) × Keeps (eqb (answer r) 0) (part m 0 end-words) ys)
+        → Promise (ys ++ drop end-words m) r (f (hostedIn m))
     by-whole f l el r ys h =
         let e = hosted-is m long l el in
-        rw (back-patched m 0 end-words ys (h .1))
-        (does (patched m 0 ys) (f (hostedIn m)) r (h .0 .0 ∙ ap (λ (x : End). says (f x)) (sym e))
-        (puts-end m long ys (h .1) ∙ ap (λ (x : Setup). endIn x ys) (sym el) ∙ h .0 .1 ∙ ap (λ (x : End). f x .end) (sym e))
-        (length-patched m 0 ys (omega arith)))
+        let k = h .1 .0 in
+        let back = back-patched m 0 end-words ys k in
+        let after = puts-end m long ys k ∙ ap (λ (x : Setup). endIn x ys) (sym el) ∙ h .0 .1 ∙ ap (λ (x : End). f x .end) (sym e) in (
+          rw (eq-eqb (length m) hosted-words long) (h .0 .0 ∙ ap (λ (x : End). says (f x)) (sym e)),
+          (λ _. ap hostedIn back ∙ after, (keeps-back m 0 end-words ys (eqb (answer r) 0) (h .1 .1), ap length back ∙ length-patched m 0 ys (omega arith))),
+        )
 
 pub refresh-answer : (e : End) → 0 ≡ refreshOf e .answer
 unfolding refreshOf
@@ -108,25 +105,25 @@ refresh-answer e = refl
 -- ---- Send
 
 pub sends-refused : (m : List ℕ) → (length m ≡ hosted-words → ⊥) → (r : Sending) → r ≡ sending 10 0 0 0
-    → Sends m m r × Leaves (isHosted m) m m (sendOf (hostedIn m) .end)
+    → Sends m m r × Leaves (isHosted m) (r .answer) m m (sendOf (hostedIn m) .end)
 sends-refused m h r e =
     let t : isHosted m ≡ false = ne-eqb (length m) hosted-words h in
-    ((λ is. absurd (true≢false (sym is ∙ t)), (λ _. e, λ _. e ∙ ap (λ (x : Sending). sending (x .answer) 0 0 0) (sym e))), stays (isHosted m) m (sendOf (hostedIn m) .end) t)
+    ((λ is. absurd (true≢false (sym is ∙ t)), (λ _. e, λ _. e ∙ ap (λ (x : Sending). sending (x .answer) 0 0 0) (sym e))), stays (isHosted m) (r .answer) m (sendOf (hostedIn m) .end) t)
 
 module _ (m : List ℕ) (long : length m ≡ hosted-words) where
-  sends : (w : List ℕ) (r : Sending) → length w ≡ length m → sentIn w r ≡ sendOf (hostedIn m) → (eqb (r .answer) 0 ≡ false → r ≡ sending (r .answer) 0 0 0)
-      → Sends m w r × Leaves (isHosted m) m w (sendOf (hostedIn m) .end)
-  sends w r keeps is none =
+  sends : (w : List ℕ) (r : Sending) → length w ≡ length m → Keeps (eqb (r .answer) 0) m w → sentIn w r ≡ sendOf (hostedIn m)
+      → (eqb (r .answer) 0 ≡ false → r ≡ sending (r .answer) 0 0 0) → Sends m w r × Leaves (isHosted m) (r .answer) m w (sendOf (hostedIn m) .end)
+  sends w r same keeps is none =
       let t : isHosted m ≡ true = eq-eqb (length m) hosted-words long in
-      ((λ _. is, (λ (n : isHosted m ≡ false). absurd (true≢false (sym t ∙ n)), none)), leaves (isHosted m) m w (sendOf (hostedIn m) .end) t (ap (λ (x : Sent). x .end) is) keeps)
+      ((λ _. is, (λ (n : isHosted m ≡ false). absurd (true≢false (sym t ∙ n)), none)), (λ _. ap (λ (x : Sent). x .end) is, (keeps, same)))
 
   module _ (x : Source) (ex : x ≡ sourceOf (sendingIn (part m 0 end-words)) (receivingIn (part m 0 end-words))) where
     is : sendOf (hostedIn m) ≡ sentFrom (hostedIn m) x
     unfolding hostedIn endIn
     is = sends-as (hostedIn m) ∙ ap (λ (y : Source). sentFrom (hostedIn m) y) (sym ex)
 
-    pub sends-none : x ≡ Source.Nothing → (r : Sending) → r ≡ sending 18 0 0 0 → Sends m m r × Leaves (isHosted m) m m (sendOf (hostedIn m) .end)
-    sends-none z r e = sends m r refl (rw e (sym (rw z at is))) (λ _. e ∙ ap (λ (y : Sending). sending (y .answer) 0 0 0) (sym e))
+    pub sends-none : x ≡ Source.Nothing → (r : Sending) → r ≡ sending 18 0 0 0 → Sends m m r × Leaves (isHosted m) (r .answer) m m (sendOf (hostedIn m) .end)
+    sends-none z r e = sends m r refl (λ _. refl) (rw e (sym (rw z at is))) (λ _. e ∙ ap (λ (y : Sending). sending (y .answer) 0 0 0) (sym e))
 
     module _ (ys : List ℕ) (l : length ys ≡ end-words) (g : Given)
         (frame : (frameIn (g .head) (g .rest) ≡ frameFrom (sendingIn (part m 0 end-words)) (receivingIn (part m 0 end-words)) x) × (g .detail ≡ detailFrom x))
@@ -143,10 +140,10 @@ module _ (m : List ℕ) (long : length m ≡ hosted-words) where
       front = ap (λ (f : Frame). Front.Frame f) (frame .0)
 
       pub sends-frame : x ≢ Source.Nothing → Sends m (ys ++ drop end-words m) (sending 0 (g .detail) (g .head) (g .rest))
-          × Leaves (isHosted m) m (ys ++ drop end-words m) (sendOf (hostedIn m) .end)
+          × Leaves (isHosted m) 0 m (ys ++ drop end-words m) (sendOf (hostedIn m) .end)
       sends-frame some =
           rw (back-patched m 0 end-words ys l)
-          (sends (patched m 0 ys) (sending 0 (g .detail) (g .head) (g .rest)) (length-patched m 0 ys (omega arith))
+          (sends (patched m 0 ys) (sending 0 (g .detail) (g .head) (g .rest)) (length-patched m 0 ys (omega arith)) made
           (rw (after, front, frame .1) (sym (is ∙ some-given (hostedIn m) x some))) (λ n. absurd (true≢false n)))
 
 -- ---- the shape, and how often the link was trained again
@@ -234,22 +231,22 @@ started-is l p e i d h = rw e (getD-any (startOf l .pair .ends) i d (endOf blank
     ends false = refl
 
 -- refused: 7; then 5; then 11; else started
-pub start-short : (m b : List ℕ) (which : ℕ) → (length m ≡ hosted-words → ⊥) → (7 ≡ startAnswer m b which) × Leaves (eqb 7 0) m m (startedEnd b which)
-start-short m b which h = (rw (ne-eqb (length m) hosted-words h), stays (eqb 7 0) m (startedEnd b which) refl)
+pub start-short : (m b : List ℕ) (which : ℕ) → (length m ≡ hosted-words → ⊥) → (7 ≡ startAnswer m b which) × Leaves (eqb 7 0) 7 m m (startedEnd b which)
+start-short m b which h = (rw (ne-eqb (length m) hosted-words h), stays (eqb 7 0) 7 m (startedEnd b which) refl)
 
 module _ (m b : List ℕ) (which : ℕ) (long : length m ≡ hosted-words) (f : Found) (is : f ≡ readSetup b) where
-  pub start-bad : (f .answer ≡ 0 → ⊥) → (f .answer ≡ startAnswer m b which) × Leaves (eqb (f .answer) 0) m m (startedEnd b which)
+  pub start-bad : (f .answer ≡ 0 → ⊥) → (f .answer ≡ startAnswer m b which) × Leaves (eqb (f .answer) 0) (f .answer) m m (startedEnd b which)
   start-bad h =
       let t : eqb (f .answer) 0 ≡ false = ne-eqb (f .answer) 0 h in
-      (rw (eq-eqb (length m) hosted-words long, ← is, t), stays (eqb (f .answer) 0) m (startedEnd b which) t)
+      (rw (eq-eqb (length m) hosted-words long, ← is, t), stays (eqb (f .answer) 0) (f .answer) m (startedEnd b which) t)
 
   module _ (fair : f .answer ≡ 0) where
-    pub start-end : 1 < which → (11 ≡ startAnswer m b which) × Leaves (eqb 11 0) m m (startedEnd b which)
-    start-end h = (rw (eq-eqb (length m) hosted-words long, ← is, fair, lt-ltb 1 which h), stays (eqb 11 0) m (startedEnd b which) refl)
+    pub start-end : 1 < which → (11 ≡ startAnswer m b which) × Leaves (eqb 11 0) 11 m m (startedEnd b which)
+    start-end h = (rw (eq-eqb (length m) hosted-words long, ← is, fair, lt-ltb 1 which h), stays (eqb 11 0) 11 m (startedEnd b which) refl)
 
     pub start-done : which ≤ 1 → (e : End) → e ≡ endAt (startOf (f .setup) .pair) which → (w : List ℕ) → (hostedIn w ≡ e) × (length w ≡ hosted-words)
-        → (0 ≡ startAnswer m b which) × Leaves (eqb 0 0) m w (startedEnd b which)
+        → (0 ≡ startAnswer m b which) × Leaves (eqb 0 0) 0 m w (startedEnd b which)
     start-done h e ee w k = (
       rw (eq-eqb (length m) hosted-words long, ← is, fair, le-ltb 1 which h),
-      leaves (eqb 0 0) m w (startedEnd b which) refl (k .0 ∙ ee ∙ ap (λ (x : Found). endAt (startOf (x .setup) .pair) which) is) (k .1 ∙ sym long),
+      (λ _. k .0 ∙ ee ∙ ap (λ (x : Found). endAt (startOf (x .setup) .pair) which) is, (made, k .1 ∙ sym long)),
     )

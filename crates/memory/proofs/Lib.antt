@@ -1,5 +1,6 @@
 pub mod EndLaws
 pub mod HostLaws
+pub mod KeepLaws
 pub mod LinesLaws
 pub mod ListsLaws
 pub mod LoadLaws

@@ -2,43 +2,29 @@
 -- Assumes that the words of the pair are all there, and that there is such an end.
 use Prim.Native.Nat.{ℕ, zero, suc, _+_, _-_, _*_, _<_, _≤_}
 use mathlib.Core.Path.{_≡_, refl, sym, ap, _∙_}
-use mathlib.Core.Bool.{Bool, true, false, _&&_, not}
+use mathlib.Core.Bool.{Bool, true, false}
 use mathlib.Core.Logic.{_≢_}
 use mathlib.Core.List.{List, [], _∷_, _++_}
 use native.Mathlib.Nat.{not-suc-le-zero, le-of-suc-le-suc}
 use native.Mathlib.Omega.{arith}
 use borrow.Author.Tests.{ne-eqb}
-use lib.Dec.{eqb, ltb, leb}
+use lib.Dec.{eqb}
 use lib.ListN.{length, take, drop, getD, set}
-use Rattle.basics.specs.Choice.{if_then_else_}
 use Rattle.basics.specs.Parts.{part}
-use Rattle.counters.specs.declared.Order.{Order}
-use Rattle.counters.specs.declared.Order.the-variants as Order
-use Rattle.counters.specs.Counters.{orderOf, ackAnswer, updateAnswer}
-use Rattle.packets.specs.declared.Packet.{Packet}
-use Rattle.packets.specs.Packets.{categoryOf, needOf, slotOf}
-use Rattle.credits.specs.Credits.{roomAnswer}
 use Rattle.frames.specs.declared.Frame.{Frame}
 use Rattle.frames.specs.declared.Frame.the-variants as Frame
-use Rattle.frames.specs.Frames.{frameAnswer}
-use Rattle.frames.specs.declared.Message.{Message}
-use Rattle.frames.specs.declared.Message.the-variants as Message
 use Rattle.line.specs.declared.Front.{Front}
 use Rattle.line.specs.declared.Front.the-variants as Front
 use Rattle.line.specs.declared.Line.{Line}
 use Rattle.line.specs.declared.Slot.{Slot}
 use Rattle.line.specs.Line.{blank, isFull, put, frontOf, restOf}
 use Rattle.setup.specs.declared.Setup.{Setup}
-use Rattle.setup.specs.Setup.{channels, blankSetup}
+use Rattle.setup.specs.Setup.{blankSetup}
 use Rattle.sender.specs.declared.Sender.{Sender}
-use Rattle.sender.specs.Sender.{creditAt, told}
 use Rattle.receiver.specs.declared.Receiver.{Receiver}
-use Rattle.receiver.specs.Receiver.{roomAt}
-use Rattle.hearing.specs.Hearing.{limited, answered, hears}
-use Rattle.delivery.specs.Delivery.{got, inSequence, byOrder, arrives}
 use Rattle.ends.specs.declared.End.{End}
 use Rattle.ends.specs.declared.Stepped.{Stepped}
-use Rattle.ends.specs.Ends.{end, stepped, channelFor, heard, arriveOf, damageOf}
+use Rattle.ends.specs.Ends.{end, damageOf}
 use Rattle.ends.specs.Sends.{sendOf}
 use Rattle.pairs.specs.declared.Pair.{Pair}
 use Rattle.pairs.specs.declared.Done.{Done}
@@ -53,7 +39,8 @@ use Rattle.memory.specs.declared.Given.{Given}
 use Rattle.memory.specs.declared.Said.{Said}
 use Rattle.memory.specs.declared.Source.{Source}
 use Rattle.memory.specs.declared.Source.the-variants as Source
-use Rattle.memory.specs.Said.{said, saidStepped, saidDone}
+use Rattle.memory.specs.Said.{said, saidStepped, saidDone, Keeps}
+use Rattle.memory.proofs.KeepLaws.{made, keeps-said, keeps-back}
 use Rattle.memory.specs.Sources.{sourceOf, frameFrom, senderAfter, receiverAfter, detailFrom}
 use Rattle.memory.proofs.SourceLaws.{given, sentFrom, sends-as}
 
@@ -80,11 +67,11 @@ line-at i = lines-at + line-words * i
 
 -- ---- what a step says and leaves
 
-abbrev pub Does : List Setup → List ℕ → Said → Done → Type 0
-Does links w r d = ((r ≡ saidDone d) × (pairIn links w ≡ d .pair)) × (length w ≡ pair-words)
+abbrev pub Does : List Setup → List ℕ → List ℕ → Said → Done → Type 0
+Does links m w r d = ((r ≡ saidDone d) × (pairIn links w ≡ d .pair)) × ((length w ≡ pair-words) × Keeps (eqb (r .answer) 0) m w)
 
-pub does-as : (links : List Setup) (w : List ℕ) (r : Said) (d e : Done) → d ≡ e → Does links w r d → Does links w r e
-does-as links w r d e q x = rw (sym q) x
+pub does-as : (links : List Setup) (m w : List ℕ) (r : Said) (d e : Done) → d ≡ e → Does links m w r d → Does links m w r e
+does-as links m w r d e q x = rw (sym q) x
 
 abbrev Holds : List Setup → List ℕ → Pair → Type 0
 Holds links w p = (pairIn links w ≡ p) × (length w ≡ pair-words)
@@ -123,13 +110,6 @@ module _ (links : List Setup) (m : List ℕ) (long : length m ≡ pair-words) (i
   line-back zs l is k =
       rw (back-at m (line-at i) line-words zs k)
       (put-line links m long zs i h k ∙ ap (λ (x : Line). pair (pairIn links m .ends) (set (pairIn links m .lines) i x)) is, line-keeps links m long zs i h k)
-
--- the end as it was
-same-end : (links : List Setup) (m : List ℕ) (i : ℕ) → i ≤ 1 → pair (set (pairIn links m .ends) i (endAt (pairIn links m) i)) (pairIn links m .lines) ≡ pairIn links m
-unfolding pairIn
-same-end links m zero h = refl
-same-end links m (suc zero) h = refl
-same-end links m (suc (suc i)) h = absurd (not-suc-le-zero (le-of-suc-le-suc h))
 
 -- an end, and then a line
 both-back : (links : List Setup) (m : List ℕ) → length m ≡ pair-words → (i j : ℕ) → i ≤ 1 → j ≤ 1 → (link : Setup) → link ≡ getD links i blankSetup
@@ -177,23 +157,22 @@ module _ (links : List Setup) (m : List ℕ) (long : length m ≡ pair-words) (i
       rw t (ap Front.Frame (sym frame-is))
 
   -- the line is empty
-  pub reach-none : (step : End → Frame → Stepped) (r : Said) → getD m (line-at i + 32) 0 ≡ 0 → r ≡ said 19 0 → Does links m r (reachAt step it i)
-  reach-none step r z e = does-as links m r (done it 19 0) _ (none-reaches it i Front.Nothing (front-none z) step refl) ((e, refl), long)
+  pub reach-none : (step : End → Frame → Stepped) (r : Said) → getD m (line-at i + 32) 0 ≡ 0 → r ≡ said 19 0 → Does links m m r (reachAt step it i)
+  reach-none step r z e = does-as links m m r (done it 19 0) _ (none-reaches it i Front.Nothing (front-none z) step refl) ((e, refl), (long, λ _. refl))
 
-  pub lose-none : (r : Said) → getD m (line-at i + 32) 0 ≡ 0 → r ≡ said 19 0 → Does links m r (loseAt it i)
-  lose-none r z e = does-as links m r (done it 19 0) _ (none-lost it i Front.Nothing (front-none z) refl) ((e, refl), long)
+  pub lose-none : (r : Said) → getD m (line-at i + 32) 0 ≡ 0 → r ≡ said 19 0 → Does links m m r (loseAt it i)
+  lose-none r z e = does-as links m m r (done it 19 0) _ (none-lost it i Front.Nothing (front-none z) refl) ((e, refl), (long, λ _. refl))
 
   -- it is not
   module _ (some : getD m (line-at i + 32) 0 ≢ 0) where
     pub lose-one : (zs : List ℕ) (r : Said) → (lineIn zs ≡ restOf (lineIn (lent m (line-at i) line-words))) × (length zs ≡ line-words) → r ≡ said 0 0
-        → Does links (back m (line-at i) line-words zs) r (loseAt it i)
+        → Does links m (back m (line-at i) line-words zs) r (loseAt it i)
     lose-one zs r l e =
         let b = line-back links m long i h zs (restOf (lineAt it i)) (l .0 ∙ ap restOf (line-lent links m long i h)) (l .1) in
-        does-as links _ r (done (pair (it .ends) (set (it .lines) i (restOf (lineAt it i)))) 0 0) _
-        (one-lost it i (Front.Frame first) (front-one some) first refl) ((e, b .0), b .1)
+        does-as links m _ r (done (pair (it .ends) (set (it .lines) i (restOf (lineAt it i)))) 0 0) _
+        (one-lost it i (Front.Frame first) (front-one some) first refl) ((e, b .0), (b .1, keeps-said m _ r 0 0 e made))
 
-    module _ (link : Setup) (own : link ≡ getD links i blankSetup) (step : End → Frame → Stepped) (ys : List ℕ)
-        (leaves : endIn link ys ≡ step (endIn link (lent m (end-at i) end-words)) first .end) (all : length ys ≡ end-words) where
+    module _ (link : Setup) (own : link ≡ getD links i blankSetup) (step : End → Frame → Stepped) (ys : List ℕ) where
       abbrev lent-step : Stepped
       lent-step = step (endIn link (lent m (end-at i) end-words)) first
 
@@ -207,73 +186,37 @@ module _ (links : List Setup) (m : List ℕ) (long : length m ≡ pair-words) (i
       reaches = one-reaches it i (Front.Frame first) (front-one some) step first refl
 
       -- the end refuses it: all stays
-      pub reach-refused : (its-step .answer ≢ 0 → its-step .end ≡ endAt it i) → (s r : Said) → s ≡ saidStepped lent-step → s .answer ≢ 0 → r ≡ said (s .answer) 0
-          → Does links (back m (end-at i) end-words ys) r (reachAt step it i)
+      pub reach-refused : (s r : Said) → s ≡ saidStepped lent-step → s .answer ≢ 0 → r ≡ said (s .answer) 0
+          → Keeps (eqb (s .answer) 0) (lent m (end-at i) end-words) ys → Does links m (back m (end-at i) end-words ys) r (reachAt step it i)
       unfolding reached
-      reach-refused keeps s r is n e =
+      reach-refused s r is n e keeps =
           let a : s .answer ≡ its-step .answer = ap (λ (x : Said). x .answer) is ∙ ap (λ (x : Stepped). x .answer) step-is in
           let t : eqb (its-step .answer) 0 ≡ false = ne-eqb _ 0 (λ z. n (a ∙ z)) in
           let q : reached it i its-step ≡ done it (its-step .answer) 0 = rw t in
-          let b = end-back links m long i h link own ys (endAt it i) (leaves ∙ ap (λ (x : Stepped). x .end) step-is ∙ keeps (λ z. n (a ∙ z))) all in
-          does-as links _ r (done it (its-step .answer) 0) _ (sym q ∙ reaches)
-          ((e ∙ ap (λ (k : ℕ). said k 0) a, b .0 ∙ same-end links m i h), b .1)
+          let w = keeps-back m (end-at i) (end-at i + end-words - end-at i) ys (eqb (s .answer) 0) keeps (ne-eqb _ 0 n) in
+          does-as links m _ r (done it (its-step .answer) 0) _ (sym q ∙ reaches)
+          ((e ∙ ap (λ (k : ℕ). said k 0) a, ap (pairIn links) w), (ap length w ∙ long, λ _. w))
 
       -- the end takes it: it leaves the line
-      pub reach-taken : (s : Said) → s ≡ saidStepped lent-step → s .answer ≡ 0 → (zs : List ℕ)
+      pub reach-taken : endIn link ys ≡ lent-step .end → length ys ≡ end-words → (s : Said) → s ≡ saidStepped lent-step → s .answer ≡ 0 → (zs : List ℕ)
           → (lineIn zs ≡ restOf (lineIn (lent (back m (end-at i) end-words ys) (line-at i) line-words))) × (length zs ≡ line-words)
-          → Does links (back (back m (end-at i) end-words ys) (line-at i) line-words zs) s (reachAt step it i)
+          → Does links m (back (back m (end-at i) end-words ys) (line-at i) line-words zs) s (reachAt step it i)
       unfolding reached
-      reach-taken s is z zs l =
+      reach-taken leaves all s is z zs l =
           let p : s ≡ saidStepped its-step = is ∙ ap saidStepped step-is in
           let a : its-step .answer ≡ 0 = sym (ap (λ (x : Said). x .answer) p) ∙ z in
           let q : reached it i its-step ≡ done (pair (set (it .ends) i (its-step .end)) (set (it .lines) i (restOf (lineAt it i)))) 0 (its-step .detail) = rw a in
+          let u : s ≡ said 0 (its-step .detail) = p ∙ ap (λ (k : ℕ). said k (its-step .detail)) a in
           let b = both-back links m long i i h h link own ys (its-step .end) (leaves ∙ ap (λ (x : Stepped). x .end) step-is) all restOf zs l in
-          does-as links _ s (done (pair (set (it .ends) i (its-step .end)) (set (it .lines) i (restOf (lineAt it i)))) 0 (its-step .detail)) _ (sym q ∙ reaches)
-          ((p ∙ ap (λ (k : ℕ). said k (its-step .detail)) a, b .0), b .1)
+          does-as links m _ s (done (pair (set (it .ends) i (its-step .end)) (set (it .lines) i (restOf (lineAt it i)))) 0 (its-step .detail)) _ (sym q ∙ reaches)
+          ((u, b .0), (b .1, keeps-said m _ s 0 (its-step .detail) u made))
 
--- ---- a frame that the end refuses leaves the end as it was; a damaged one is never refused
+-- ---- a damaged frame is never refused
 
 pub damage-says : (e : End) (f : Frame) → said 0 4 ≡ saidStepped (damageOf e f)
 unfolding damageOf
 damage-says e (Frame.Packet number p) = refl
 damage-says e (Frame.Message x) = refl
-
-told-leaves : (b : Bool) (s t : Sender) (k : ℕ) → (if b then told t 0 else told s k) .answer ≢ 0 → (if b then told t 0 else told s k) .sender ≡ s
-told-leaves true s t k n = absurd (n refl)
-told-leaves false s t k n = refl
-
-hear-leaves : (s : Sender) (x : Message) → hears s x .answer ≢ 0 → hears s x .sender ≡ s
-unfolding hears answered limited
-hear-leaves s (Message.Ack number) = told-leaves (eqb (ackAnswer (s .acked) (s .buffer .len) number) 0) s _ 24
-hear-leaves s (Message.Nak number) = told-leaves (eqb (ackAnswer (s .acked) (s .buffer .len) number) 0) s _ 24
-hear-leaves s (Message.Update channel c limits) = told-leaves (ltb channel channels && eqb (updateAnswer (creditAt s (slotOf channel c) .limit) limits) 0) s _ 25
-
-got-leaves : (a b : Bool) (r t : Receiver) → (if a then got r 26 0 else if b then got r 26 0 else got t 0 1) .answer ≢ 0
-    → (if a then got r 26 0 else if b then got r 26 0 else got t 0 1) .receiver ≡ r
-got-leaves true b r t n = refl
-got-leaves false true r t n = refl
-got-leaves false false r t n = absurd (n refl)
-
-get-leaves : (r : Receiver) (channel : ℕ) (p : Packet) (o : Order) → byOrder r channel p o .answer ≢ 0 → byOrder r channel p o .receiver ≡ r
-unfolding inSequence
-get-leaves r channel p Order.Next =
-    got-leaves (leb channels channel) (not (eqb (roomAnswer (roomAt r (slotOf channel (categoryOf p))) (needOf p)) 0)) r _
-get-leaves r channel p Order.Duplicate = λ n. absurd (n refl)
-get-leaves r channel p Order.OutOfOrder = λ n. absurd (n refl)
-
-heard-leaves : (e : End) (f : Frame) → heard e f .answer ≢ 0 → heard e f .end ≡ e
-unfolding arrives
-heard-leaves e (Frame.Packet number p) n =
-    ap (λ (r : Receiver). end (e .setup) (e .sender) r) (get-leaves (e .receiver) (channelFor e p) p (orderOf (e .receiver .reply .«next_receive») number) n)
-heard-leaves e (Frame.Message x) n = ap (λ (s : Sender). end (e .setup) s (e .receiver)) (hear-leaves (e .sender) x n)
-
-pub arrive-leaves : (e : End) (f : Frame) → arriveOf e f .answer ≢ 0 → arriveOf e f .end ≡ e
-unfolding arriveOf
-arrive-leaves e f = go (eqb (frameAnswer (e .setup .n) f) 0)
-  where
-    go : (b : Bool) → (if b then heard e f else stepped e 27 0) .answer ≢ 0 → (if b then heard e f else stepped e 27 0) .end ≡ e
-    go true = heard-leaves e f
-    go false = λ n. refl
 
 -- ---- Send
 
@@ -297,10 +240,10 @@ module _ (links : List Setup) (m : List ℕ) (long : length m ≡ pair-words) (i
   unfolding endIn
   sent-is = ap (sentFrom its) is ∙ sym (sends-as its) ∙ ap sendOf (end-lent links m long i h (getD links i blankSetup) refl)
 
-  pub send-none : (r : Said) → x ≡ Source.Nothing → r ≡ said 18 0 → Does links m r (sendAt (pairIn links m) i)
+  pub send-none : (r : Said) → x ≡ Source.Nothing → r ≡ said 18 0 → Does links m m r (sendAt (pairIn links m) i)
   send-none r n e =
-      does-as links m r (done (pairIn links m) 18 0) _
-      (nothing-applies (pairIn links m) i (sentFrom its Source.Nothing) (ap (sentFrom its) (sym n) ∙ sent-is) refl) ((e, refl), long)
+      does-as links m m r (done (pairIn links m) 18 0) _
+      (nothing-applies (pairIn links m) i (sentFrom its Source.Nothing) (ap (sentFrom its) (sym n) ∙ sent-is) refl) ((e, refl), (long, λ _. refl))
 
   module _ (some : x ≢ Source.Nothing) (full : Bool) (line : full ≡ isFull (lineIn (lent m (line-at (other i)) line-words))) where
     given-is : given its x ≡ sendOf (endAt (pairIn links m) i)
@@ -312,10 +255,10 @@ module _ (links : List Setup) (m : List ℕ) (long : length m ≡ pair-words) (i
     abbrev its-frame : Frame
     its-frame = frameFrom (its .sender) (its .receiver) x
 
-    pub send-full : (r : Said) → full ≡ true → r ≡ said 17 0 → Does links m r (sendAt (pairIn links m) i)
+    pub send-full : (r : Said) → full ≡ true → r ≡ said 17 0 → Does links m m r (sendAt (pairIn links m) i)
     send-full r t e =
-        does-as links m r (done (pairIn links m) 17 0) _
-        (line-full (pairIn links m) i (given its x) given-is its-frame refl (line-is-full ∙ t)) ((e, refl), long)
+        does-as links m m r (done (pairIn links m) 17 0) _
+        (line-full (pairIn links m) i (given its x) given-is its-frame refl (line-is-full ∙ t)) ((e, refl), (long, λ _. refl))
 
     pub send-gives : full ≡ false → (g : Given) (ys : List ℕ)
         → ((frameIn (g .head) (g .rest) ≡ frameFrom (sendingIn (lent m (end-at i) end-words)) (receivingIn (lent m (end-at i) end-words)) x) × (g .detail ≡ detailFrom x))
@@ -323,7 +266,7 @@ module _ (links : List Setup) (m : List ℕ) (long : length m ≡ pair-words) (i
         × (length ys ≡ end-words))
         → (zs : List ℕ)
         → (lineIn zs ≡ put (lineIn (lent (back m (end-at i) end-words ys) (line-at (other i)) line-words)) (frameIn (g .head) (g .rest))) × (length zs ≡ line-words)
-        → Does links (back (back m (end-at i) end-words ys) (line-at (other i)) line-words zs) (said 0 (g .detail)) (sendAt (pairIn links m) i)
+        → Does links m (back (back m (end-at i) end-words ys) (line-at (other i)) line-words zs) (said 0 (g .detail)) (sendAt (pairIn links m) i)
     unfolding endIn
     send-gives t g ys k zs l =
         let it = pairIn links m in
@@ -332,5 +275,5 @@ module _ (links : List Setup) (m : List ℕ) (long : length m ≡ pair-words) (i
         ∙ ap (λ (r : Receiver). end (getD links i blankSetup) (senderAfter (sendingIn (lent m (end-at i) end-words)) x) r) (k .1 .0 .1) in
         let b = both-back links m long i (other i) h other-end (getD links i blankSetup) refl ys (given its x .end) e (k .1 .1) (λ (q : Line). put q its-frame) zs
         (l .0 ∙ ap (put (lineIn (lent (back m (end-at i) end-words ys) (line-at (other i)) line-words))) (k .0 .0), l .1) in
-        does-as links _ (said 0 (g .detail)) _ _ (goes it i (given its x) given-is its-frame refl (line-is-full ∙ t))
-        ((ap (λ (n : ℕ). said 0 n) (k .0 .1), b .0), b .1)
+        does-as links m _ (said 0 (g .detail)) _ _ (goes it i (given its x) given-is its-frame refl (line-is-full ∙ t))
+        ((ap (λ (n : ℕ). said 0 n) (k .0 .1), b .0), (b .1, made))

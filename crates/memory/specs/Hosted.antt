@@ -25,7 +25,7 @@ use Rattle.words.specs.Words.{frameIn}
 use Rattle.words.specs.Memory.{end-words, endIn}
 use Rattle.memory.specs.declared.Said.{Said}
 use Rattle.memory.specs.declared.hosts.Sending.{Sending}
-use Rattle.memory.specs.Said.{said, saidStepped}
+use Rattle.memory.specs.Said.{said, saidStepped, Keeps}
 
 -- ---- a setup: n, the channels of classes 1 to 7, and a word for each slot's units
 
@@ -71,10 +71,10 @@ saidIn m s = if isHosted m then saidStepped s else said 10 0
 abbrev pub packet : ℕ → ℕ → ℕ → ℕ → Packet
 packet kind class length ident = record { kind = kind; class = class; length = length; ident = ident }
 
--- ---- what it leaves: if t then the end e, else the memory is as it was
+-- ---- what it leaves: if t then the end e; by any other answer than 0 the memory is as it was, in every word
 
-abbrev pub Leaves : Bool → List ℕ → List ℕ → End → Type 0
-Leaves t m w e = (t ≡ true → hostedIn w ≡ e) × ((t ≡ false → w ≡ m) × (length w ≡ length m))
+abbrev pub Leaves : Bool → ℕ → List ℕ → List ℕ → End → Type 0
+Leaves t answer m w e = (t ≡ true → hostedIn w ≡ e) × (Keeps (eqb answer 0) m w × (length w ≡ length m))
 
 -- ---- Send: a frame is two words; where there is none, both are 0
 

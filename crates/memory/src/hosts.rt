@@ -1,6 +1,6 @@
 // One end for a host in C or Rust, kept in the host's memory as words and stepped there with no copy. A struct behind a reference that
 // holds an enum cannot be exported, so the words are lent: the end's, then those of its setup. No step looks at the shape of the end:
-// `end_shape` does. Assumes nothing: memory of another length is refused, and nothing changes.
+// `end_shape` does. A step that is refused leaves every word as it was. Assumes nothing: memory of another length is refused.
 use crate::END;
 use crate::Said;
 use crate::Source;
@@ -48,7 +48,7 @@ fn no_frame(answer: u8) -> Sending
 #[no_mangle]
 pub extern "C" fn end_submit(m: &mut [u64], kind: u8, class: u8, length: u16, ident: u32) -> u8
     ensures { λ r. ⌜ r ≡ answerIn (now (m .entry)) (submitOf (hostedIn (now (m .entry))) (packet kind class length ident)) ⌝ }
-    ensures { λ _. ⌜ Leaves (isHosted (now (m .entry))) (now (m .entry)) (now (m .exit)) (submitOf (hostedIn (now (m .entry))) (packet kind class length ident) .end) ⌝ }
+    ensures { λ r. ⌜ Leaves (isHosted (now (m .entry))) r (now (m .entry)) (now (m .exit)) (submitOf (hostedIn (now (m .entry))) (packet kind class length ident) .end) ⌝ }
 {
     if m.len() != HOSTED {
         return 10;
@@ -67,7 +67,7 @@ pub extern "C" fn end_submit(m: &mut [u64], kind: u8, class: u8, length: u16, id
 #[no_mangle]
 pub extern "C" fn end_arrive(m: &mut [u64], head: u64, rest: u64) -> Said
     ensures { λ r. ⌜ r ≡ saidIn (now (m .entry)) (arriveOf (hostedIn (now (m .entry))) (frameIn head rest)) ⌝ }
-    ensures { λ _. ⌜ Leaves (isHosted (now (m .entry))) (now (m .entry)) (now (m .exit)) (arriveOf (hostedIn (now (m .entry))) (frameIn head rest) .end) ⌝ }
+    ensures { λ r. ⌜ Leaves (isHosted (now (m .entry))) (r .answer) (now (m .entry)) (now (m .exit)) (arriveOf (hostedIn (now (m .entry))) (frameIn head rest) .end) ⌝ }
 {
     if m.len() != HOSTED {
         return bare(10);
@@ -80,7 +80,7 @@ pub extern "C" fn end_arrive(m: &mut [u64], head: u64, rest: u64) -> Said
 #[no_mangle]
 pub extern "C" fn end_damage(m: &mut [u64], head: u64, rest: u64) -> Said
     ensures { λ r. ⌜ r ≡ saidIn (now (m .entry)) (damageOf (hostedIn (now (m .entry))) (frameIn head rest)) ⌝ }
-    ensures { λ _. ⌜ Leaves (isHosted (now (m .entry))) (now (m .entry)) (now (m .exit)) (damageOf (hostedIn (now (m .entry))) (frameIn head rest) .end) ⌝ }
+    ensures { λ r. ⌜ Leaves (isHosted (now (m .entry))) (r .answer) (now (m .entry)) (now (m .exit)) (damageOf (hostedIn (now (m .entry))) (frameIn head rest) .end) ⌝ }
 {
     if m.len() != HOSTED {
         return bare(10);
@@ -92,7 +92,7 @@ pub extern "C" fn end_damage(m: &mut [u64], head: u64, rest: u64) -> Said
 #[no_mangle]
 pub extern "C" fn end_take(m: &mut [u64], channel: u8, category: u8) -> Said
     ensures { λ r. ⌜ r ≡ saidIn (now (m .entry)) (takeAt (hostedIn (now (m .entry))) channel category) ⌝ }
-    ensures { λ _. ⌜ Leaves (isHosted (now (m .entry))) (now (m .entry)) (now (m .exit)) (takeAt (hostedIn (now (m .entry))) channel category .end) ⌝ }
+    ensures { λ r. ⌜ Leaves (isHosted (now (m .entry))) (r .answer) (now (m .entry)) (now (m .exit)) (takeAt (hostedIn (now (m .entry))) channel category .end) ⌝ }
 {
     if m.len() != HOSTED {
         return bare(10);
@@ -104,7 +104,7 @@ pub extern "C" fn end_take(m: &mut [u64], channel: u8, category: u8) -> Said
 #[no_mangle]
 pub extern "C" fn end_timer(m: &mut [u64]) -> u8
     ensures { λ r. ⌜ r ≡ answerIn (now (m .entry)) (timerOf (hostedIn (now (m .entry)))) ⌝ }
-    ensures { λ _. ⌜ Leaves (isHosted (now (m .entry))) (now (m .entry)) (now (m .exit)) (timerOf (hostedIn (now (m .entry))) .end) ⌝ }
+    ensures { λ r. ⌜ Leaves (isHosted (now (m .entry))) r (now (m .entry)) (now (m .exit)) (timerOf (hostedIn (now (m .entry))) .end) ⌝ }
 {
     if m.len() != HOSTED {
         return 10;
@@ -115,7 +115,7 @@ pub extern "C" fn end_timer(m: &mut [u64]) -> u8
 #[no_mangle]
 pub extern "C" fn end_refresh(m: &mut [u64]) -> u8
     ensures { λ r. ⌜ r ≡ answerIn (now (m .entry)) (refreshOf (hostedIn (now (m .entry)))) ⌝ }
-    ensures { λ _. ⌜ Leaves (isHosted (now (m .entry))) (now (m .entry)) (now (m .exit)) (refreshOf (hostedIn (now (m .entry))) .end) ⌝ }
+    ensures { λ r. ⌜ Leaves (isHosted (now (m .entry))) r (now (m .entry)) (now (m .exit)) (refreshOf (hostedIn (now (m .entry))) .end) ⌝ }
 {
     if m.len() != HOSTED {
         return 10;
@@ -129,7 +129,7 @@ pub extern "C" fn end_refresh(m: &mut [u64]) -> u8
 #[no_mangle]
 pub extern "C" fn end_send(m: &mut [u64]) -> Sending
     ensures { λ r. ⌜ Sends (now (m .entry)) (now (m .exit)) r ⌝ }
-    ensures { λ _. ⌜ Leaves (isHosted (now (m .entry))) (now (m .entry)) (now (m .exit)) (sendOf (hostedIn (now (m .entry))) .end) ⌝ }
+    ensures { λ r. ⌜ Leaves (isHosted (now (m .entry))) (r .answer) (now (m .entry)) (now (m .exit)) (sendOf (hostedIn (now (m .entry))) .end) ⌝ }
 {
     if m.len() != HOSTED {
         return no_frame(10);
@@ -197,7 +197,7 @@ fn store_hosted(m: &mut [u64], e: End)
 #[no_mangle]
 pub extern "C" fn end_start(m: &mut [u64], b: &[u8], which: u8) -> u8
     ensures { λ r. ⌜ r ≡ startAnswer (now (m .entry)) (now (b .entry)) which ⌝ }
-    ensures { λ r. ⌜ Leaves (eqb r 0) (now (m .entry)) (now (m .exit)) (startedEnd (now (b .entry)) which) ⌝ }
+    ensures { λ r. ⌜ Leaves (eqb r 0) r (now (m .entry)) (now (m .exit)) (startedEnd (now (b .entry)) which) ⌝ }
 {
     if m.len() != HOSTED {
         return 7;

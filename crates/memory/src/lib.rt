@@ -1,5 +1,6 @@
 // A pair in memory that its host lends as words, stepped there: no step copies more than one word at a time. What the words mean
-// stands in words/specs/Memory. No step looks at the shape of the pair. Assumes nothing: `step` takes every memory.
+// stands in words/specs/Memory. No step looks at the shape of the pair. A step that is refused leaves every word as it was.
+// Assumes nothing: `step` takes every memory.
 pub mod hosts;
 mod lines;
 mod lists;
@@ -27,7 +28,7 @@ ghost use Rattle.setup.specs.Setup.{blankSetup};
 ghost use Rattle.pairs.specs.Pairs.{startOf, sendAt, reachAt, loseAt};
 ghost use Rattle.pairs.specs.Steps.{act};
 ghost use Rattle.words.specs.Memory.{end-words, endIn, pair-words, pairIn};
-ghost use Rattle.memory.specs.Said.{said, saidStepped, saidDone};
+ghost use Rattle.memory.specs.Said.{said, saidStepped, saidDone, Keeps};
 ghost use Rattle.memory.specs.Unasked.{setupsOf, endStep, unasked};
 
 // The words of a pair: two ends, then two lines.
@@ -73,6 +74,7 @@ fn send_at(m: &mut [u64], links: [Setup; 2], i: usize) -> Said
     requires { ⌜ (length (now m) ≡ pair-words) × (i ≤ 1) ⌝ }
     ensures { λ r. ⌜ (r ≡ saidDone (sendAt (pairIn links (now (m .entry))) i)) × (pairIn links (now (m .exit)) ≡ sendAt (pairIn links (now (m .entry))) i .pair) ⌝ }
     ensures { λ _. ⌜ length (now (m .exit)) ≡ pair-words ⌝ }
+    ensures { λ r. ⌜ Keeps (eqb (r .answer) 0) (now (m .entry)) (now (m .exit)) ⌝ }
 {
     let e = END * i;
     let l = LINES_AT + LINE * (1 - i);
@@ -96,6 +98,7 @@ fn arrive_at(m: &mut [u64], links: [Setup; 2], i: usize) -> Said
     requires { ⌜ (length (now m) ≡ pair-words) × (i ≤ 1) ⌝ }
     ensures { λ r. ⌜ (r ≡ saidDone (reachAt arriveOf (pairIn links (now (m .entry))) i)) × (pairIn links (now (m .exit)) ≡ reachAt arriveOf (pairIn links (now (m .entry))) i .pair) ⌝ }
     ensures { λ _. ⌜ length (now (m .exit)) ≡ pair-words ⌝ }
+    ensures { λ r. ⌜ Keeps (eqb (r .answer) 0) (now (m .entry)) (now (m .exit)) ⌝ }
 {
     let e = END * i;
     let l = LINES_AT + LINE * i;
@@ -117,6 +120,7 @@ fn damage_at(m: &mut [u64], links: [Setup; 2], i: usize) -> Said
     requires { ⌜ (length (now m) ≡ pair-words) × (i ≤ 1) ⌝ }
     ensures { λ r. ⌜ (r ≡ saidDone (reachAt damageOf (pairIn links (now (m .entry))) i)) × (pairIn links (now (m .exit)) ≡ reachAt damageOf (pairIn links (now (m .entry))) i .pair) ⌝ }
     ensures { λ _. ⌜ length (now (m .exit)) ≡ pair-words ⌝ }
+    ensures { λ r. ⌜ Keeps (eqb (r .answer) 0) (now (m .entry)) (now (m .exit)) ⌝ }
 {
     let e = END * i;
     let l = LINES_AT + LINE * i;
@@ -135,6 +139,7 @@ fn lose_at(m: &mut [u64], links: [Setup; 2], i: usize) -> Said
     requires { ⌜ (length (now m) ≡ pair-words) × (i ≤ 1) ⌝ }
     ensures { λ r. ⌜ (r ≡ saidDone (loseAt (pairIn links (now (m .entry))) i)) × (pairIn links (now (m .exit)) ≡ loseAt (pairIn links (now (m .entry))) i .pair) ⌝ }
     ensures { λ _. ⌜ length (now (m .exit)) ≡ pair-words ⌝ }
+    ensures { λ r. ⌜ Keeps (eqb (r .answer) 0) (now (m .entry)) (now (m .exit)) ⌝ }
 {
     let l = LINES_AT + LINE * i;
     if m[l + ON_IT] == 0 {
@@ -149,6 +154,7 @@ fn step_end(m: &mut [u64], link: Setup, t: Step) -> Said
     requires { ⌜ length (now m) ≡ end-words ⌝ }
     ensures { λ r. ⌜ (r ≡ saidStepped (endStep (endIn link (now (m .entry))) t)) × (endIn link (now (m .exit)) ≡ endStep (endIn link (now (m .entry))) t .end) ⌝ }
     ensures { λ _. ⌜ length (now (m .exit)) ≡ end-words ⌝ }
+    ensures { λ r. ⌜ Keeps (eqb (r .answer) 0) (now (m .entry)) (now (m .exit)) ⌝ }
 {
     if t.step == 1 {
         return bare(one_end::submit(m, link, pairs::packet_of(t)));
@@ -170,6 +176,7 @@ fn act(m: &mut [u64], links: [Setup; 2], t: Step) -> Said
     requires { ⌜ (length (now m) ≡ pair-words) × (t .end ≤ 1) ⌝ }
     ensures { λ r. ⌜ (r ≡ saidDone (act (pairIn links (now (m .entry))) t)) × (pairIn links (now (m .exit)) ≡ act (pairIn links (now (m .entry))) t .pair) ⌝ }
     ensures { λ _. ⌜ length (now (m .exit)) ≡ pair-words ⌝ }
+    ensures { λ r. ⌜ Keeps (eqb (r .answer) 0) (now (m .entry)) (now (m .exit)) ⌝ }
 {
     let i = t.end as usize;
     if t.step == 2 {
@@ -188,11 +195,12 @@ fn act(m: &mut [u64], links: [Setup; 2], t: Step) -> Said
     step_end(&mut m[e..e + END], links[i], t)
 }
 
-// One step of the pair in this memory. Memory of another length holds no pair: 10, and nothing changes.
+// One step of the pair in this memory. Memory of another length holds no pair: 10.
 pub fn step(m: &mut [u64], links: [Setup; 2], t: Step) -> Said
     ensures { λ r. ⌜ r ≡ (if eqb (length (now (m .entry))) pair-words then saidDone (unasked (pairIn links (now (m .entry))) t) else said 10 0) ⌝ }
     ensures { λ r. ⌜ pairIn links (now (m .exit)) ≡ (if eqb (length (now (m .entry))) pair-words then unasked (pairIn links (now (m .entry))) t .pair else pairIn links (now (m .entry))) ⌝ }
     ensures { λ _. ⌜ length (now (m .exit)) ≡ length (now (m .entry)) ⌝ }
+    ensures { λ r. ⌜ Keeps (eqb (r .answer) 0) (now (m .entry)) (now (m .exit)) ⌝ }
 {
     if m.len() != WORDS {
         return bare(10);
@@ -239,6 +247,7 @@ pub fn setups_of(p: Pair) -> [Setup; 2]
 pub fn store(m: &mut [u64], p: Pair)
     ensures { λ _. ⌜ pairIn (setupsOf p) (now (m .exit)) ≡ (if eqb (length (now (m .entry))) pair-words then p else pairIn (setupsOf p) (now (m .entry))) ⌝ }
     ensures { λ _. ⌜ length (now (m .exit)) ≡ length (now (m .entry)) ⌝ }
+    ensures { λ _. ⌜ Keeps (eqb (length (now (m .entry))) pair-words) (now (m .entry)) (now (m .exit)) ⌝ }
 {
     if m.len() != WORDS {
         return;

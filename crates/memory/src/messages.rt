@@ -16,9 +16,11 @@ use words::credit_in;
 use words::credit_word;
 use words::seq_in;
 ghost use mathlib.Core.Path.{_≡_};
+ghost use lib.Dec.{eqb};
 ghost use lib.ListN.{length};
 ghost use Rattle.hearing.specs.Hearing.{acknowledged, again, limited, answered, hears};
 ghost use Rattle.words.specs.Memory.{sender-words, senderIn};
+ghost use Rattle.memory.specs.Said.{Keeps};
 
 // All up to an accepted number are released; the replay count is set to 0.
 fn acknowledge(s: &mut [u64], number: Seq)
@@ -57,6 +59,7 @@ fn answer(s: &mut [u64], number: Seq, nak: bool) -> u8
     requires { ⌜ length (now s) ≡ sender-words ⌝ }
     ensures { λ r. ⌜ (r ≡ answered (senderIn (now (s .entry))) number nak .answer) × (senderIn (now (s .exit)) ≡ answered (senderIn (now (s .entry))) number nak .sender) ⌝ }
     ensures { λ _. ⌜ length (now (s .exit)) ≡ sender-words ⌝ }
+    ensures { λ r. ⌜ Keeps (eqb r 0) (now (s .entry)) (now (s .exit)) ⌝ }
 {
     if seq_in(s[ACKED_AT]).ack_answer(s[OUT_AT] as usize, number) != 0 {
         return 24;
@@ -74,6 +77,7 @@ fn limit(s: &mut [u64], channel: u8, c: Category, limits: Counts) -> u8
     requires { ⌜ length (now s) ≡ sender-words ⌝ }
     ensures { λ r. ⌜ (r ≡ limited (senderIn (now (s .entry))) channel c limits .answer) × (senderIn (now (s .exit)) ≡ limited (senderIn (now (s .entry))) channel c limits .sender) ⌝ }
     ensures { λ _. ⌜ length (now (s .exit)) ≡ sender-words ⌝ }
+    ensures { λ r. ⌜ Keeps (eqb r 0) (now (s .entry)) (now (s .exit)) ⌝ }
 {
     let n = channel as usize;
     if n >= CHANNELS {
@@ -93,6 +97,7 @@ pub fn hear(s: &mut [u64], m: Message) -> u8
     requires { ⌜ length (now s) ≡ sender-words ⌝ }
     ensures { λ r. ⌜ (r ≡ hears (senderIn (now (s .entry))) m .answer) × (senderIn (now (s .exit)) ≡ hears (senderIn (now (s .entry))) m .sender) ⌝ }
     ensures { λ _. ⌜ length (now (s .exit)) ≡ sender-words ⌝ }
+    ensures { λ r. ⌜ Keeps (eqb r 0) (now (s .entry)) (now (s .exit)) ⌝ }
 {
     match m {
         Message::Ack(number) => answer(s, number, false),

@@ -10,12 +10,13 @@ use setup::Setup;
 use words::frame_in;
 use words::packet_word;
 ghost use mathlib.Core.Path.{_≡_};
+ghost use lib.Dec.{eqb};
 ghost use lib.ListN.{length};
 ghost use Rattle.setup.specs.declared.Setup.{Setup};
 ghost use Rattle.ends.specs.Ends.{submitAnswer, submitOf, arriveOf, damageOf, takeAt, timerOf, refreshOf};
 ghost use Rattle.words.specs.Words.{frameIn};
 ghost use Rattle.words.specs.Memory.{end-words, endIn};
-ghost use Rattle.memory.specs.Said.{saidStepped};
+ghost use Rattle.memory.specs.Said.{saidStepped, Keeps};
 
 // 12 to 16, or 0.
 fn submit_answer(m: &[u64], link: Setup, p: Packet) -> u8
@@ -44,6 +45,7 @@ pub fn submit(m: &mut [u64], link: Setup, p: Packet) -> u8
     requires { ⌜ length (now m) ≡ end-words ⌝ }
     ensures { λ r. ⌜ (r ≡ submitOf (endIn link (now (m .entry))) p .answer) × (endIn link (now (m .exit)) ≡ submitOf (endIn link (now (m .entry))) p .end) ⌝ }
     ensures { λ _. ⌜ length (now (m .exit)) ≡ end-words ⌝ }
+    ensures { λ r. ⌜ Keeps (eqb r 0) (now (m .entry)) (now (m .exit)) ⌝ }
 {
     let answer = submit_answer(m, link, p);
     if answer != 0 {
@@ -60,6 +62,7 @@ pub fn arrive(m: &mut [u64], link: Setup, head: u64, rest: u64) -> Said
     requires { ⌜ length (now m) ≡ end-words ⌝ }
     ensures { λ r. ⌜ (r ≡ saidStepped (arriveOf (endIn link (now (m .entry))) (frameIn head rest))) × (endIn link (now (m .exit)) ≡ arriveOf (endIn link (now (m .entry))) (frameIn head rest) .end) ⌝ }
     ensures { λ _. ⌜ length (now (m .exit)) ≡ end-words ⌝ }
+    ensures { λ r. ⌜ Keeps (eqb (r .answer) 0) (now (m .entry)) (now (m .exit)) ⌝ }
 {
     let f = frame_in(head, rest);
     if f.answer(link.n) != 0 {
@@ -93,6 +96,7 @@ pub fn take(m: &mut [u64], n: u8, channel: u8, category: u8) -> Said
     requires { ⌜ length (now m) ≡ end-words ⌝ }
     ensures { λ r. ⌜ ((link : Setup) → n ≡ link .n → (r ≡ saidStepped (takeAt (endIn link (now (m .entry))) channel category)) × (endIn link (now (m .exit)) ≡ takeAt (endIn link (now (m .entry))) channel category .end)) ⌝ }
     ensures { λ _. ⌜ length (now (m .exit)) ≡ end-words ⌝ }
+    ensures { λ r. ⌜ Keeps (eqb (r .answer) 0) (now (m .entry)) (now (m .exit)) ⌝ }
 {
     crate::receiving::take(&mut m[SENDER..SENDER + RECEIVER], n, channel, category)
 }
@@ -101,6 +105,7 @@ pub fn timer(m: &mut [u64]) -> u8
     requires { ⌜ length (now m) ≡ end-words ⌝ }
     ensures { λ r. ⌜ ((link : Setup) → (r ≡ timerOf (endIn link (now (m .entry))) .answer) × (endIn link (now (m .exit)) ≡ timerOf (endIn link (now (m .entry))) .end)) ⌝ }
     ensures { λ _. ⌜ length (now (m .exit)) ≡ end-words ⌝ }
+    ensures { λ r. ⌜ Keeps (eqb r 0) (now (m .entry)) (now (m .exit)) ⌝ }
 {
     crate::sending::timer(&mut m[0..SENDER])
 }

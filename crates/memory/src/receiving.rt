@@ -31,7 +31,7 @@ ghost use Rattle.receiver.specs.Receiver.{inboxAt, withReply, withRoom, cleared
 ghost use Rattle.delivery.specs.Delivery.{stored, inSequence, arrives, damaged, handedOut, taken, takeOf};
 ghost use Rattle.words.specs.Words.{packetIn, roomIn};
 ghost use Rattle.words.specs.Memory.{receiver-words, owedIn, replyIn, receiverIn};
-ghost use Rattle.memory.specs.Said.{said, saidGot};
+ghost use Rattle.memory.specs.Said.{said, saidGot, Keeps};
 ghost use Rattle.memory.specs.Receiving.{withInbox};
 
 // Where the parts stand. The receive buffers are first.
@@ -262,6 +262,7 @@ fn in_sequence(r: &mut [u64], channel: usize, w: u64) -> Said
     requires { ⌜ length (now r) ≡ receiver-words ⌝ }
     ensures { λ x. ⌜ (x ≡ saidGot (inSequence (receiverIn (now (r .entry))) channel (packetIn w))) × (receiverIn (now (r .exit)) ≡ inSequence (receiverIn (now (r .entry))) channel (packetIn w) .receiver) ⌝ }
     ensures { λ _. ⌜ length (now (r .exit)) ≡ receiver-words ⌝ }
+    ensures { λ x. ⌜ Keeps (eqb (x .answer) 0) (now (r .entry)) (now (r .exit)) ⌝ }
 {
     if channel >= CHANNELS {
         return bare(26);
@@ -293,6 +294,7 @@ pub fn arrive(r: &mut [u64], channel: usize, number: Seq, w: u64) -> Said
     requires { ⌜ length (now r) ≡ receiver-words ⌝ }
     ensures { λ x. ⌜ (x ≡ saidGot (arrives (receiverIn (now (r .entry))) channel number (packetIn w))) × (receiverIn (now (r .exit)) ≡ arrives (receiverIn (now (r .entry))) channel number (packetIn w) .receiver) ⌝ }
     ensures { λ _. ⌜ length (now (r .exit)) ≡ receiver-words ⌝ }
+    ensures { λ x. ⌜ Keeps (eqb (x .answer) 0) (now (r .entry)) (now (r .exit)) ⌝ }
 {
     let x = reply(r);
     match x.next_receive.order(number) {
@@ -332,6 +334,7 @@ fn take_of(r: &mut [u64], channel: usize, c: Category) -> Said
     requires { ⌜ (length (now r) ≡ receiver-words) × (channel < channels) ⌝ }
     ensures { λ x. ⌜ (x ≡ saidGot (taken (receiverIn (now (r .entry))) channel c)) × (receiverIn (now (r .exit)) ≡ taken (receiverIn (now (r .entry))) channel c .receiver) ⌝ }
     ensures { λ _. ⌜ length (now (r .exit)) ≡ receiver-words ⌝ }
+    ensures { λ x. ⌜ Keeps (eqb (x .answer) 0) (now (r .entry)) (now (r .exit)) ⌝ }
 {
     let Found::At(place) = oldest(r, channel, c) else {
         return bare(21);
@@ -351,6 +354,7 @@ pub fn take(r: &mut [u64], n: u8, channel: u8, category: u8) -> Said
     requires { ⌜ length (now r) ≡ receiver-words ⌝ }
     ensures { λ x. ⌜ (x ≡ saidGot (takeOf (receiverIn (now (r .entry))) n channel category)) × (receiverIn (now (r .exit)) ≡ takeOf (receiverIn (now (r .entry))) n channel category .receiver) ⌝ }
     ensures { λ _. ⌜ length (now (r .exit)) ≡ receiver-words ⌝ }
+    ensures { λ x. ⌜ Keeps (eqb (x .answer) 0) (now (r .entry)) (now (r .exit)) ⌝ }
 {
     if channel >= n {
         return bare(20);

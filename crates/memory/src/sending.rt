@@ -15,6 +15,7 @@ use words::packet_in;
 use words::seq_in;
 ghost use mathlib.Core.Path.{_≡_};
 ghost use Prim.Native.Nat.{_<_};
+ghost use lib.Dec.{eqb};
 ghost use lib.ListN.{length, getD};
 ghost use Rattle.counters.specs.Counters.{nextOf, afterOf};
 ghost use Rattle.setup.specs.Setup.{channels};
@@ -25,6 +26,7 @@ ghost use Rattle.words.specs.Words.{packetIn};
 ghost use Rattle.words.specs.Memory.{sender-words, foundIn, replayIn, senderIn};
 ghost use Rattle.packets.specs.Packets.{slotOf, categoryOf, needOf};
 ghost use Rattle.credits.specs.Credits.{spent};
+ghost use Rattle.memory.specs.Said.{Keeps};
 
 // Where the parts stand. The queues are first.
 pub const BUFFER_AT: usize = 196;
@@ -137,6 +139,7 @@ pub fn timer(s: &mut [u64]) -> u8
     requires { ⌜ length (now s) ≡ sender-words ⌝ }
     ensures { λ r. ⌜ (r ≡ timerOf (senderIn (now (s .entry))) .answer) × (senderIn (now (s .exit)) ≡ timerOf (senderIn (now (s .entry))) .sender) ⌝ }
     ensures { λ _. ⌜ length (now (s .exit)) ≡ sender-words ⌝ }
+    ensures { λ r. ⌜ Keeps (eqb r 0) (now (s .entry)) (now (s .exit)) ⌝ }
 {
     if s[OUT_AT] == 0 {
         return 23;

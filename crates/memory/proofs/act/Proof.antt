@@ -12,22 +12,22 @@ use Rattle.memory.proofs.act.Tie as tie
 returns : tie.Need-returns
 returns c =
     let d = c .before .before in let i = d .before .before in let a = i .before .before .before .before in
-    does-as (a .args .t2) _ _ _ _ (sends _ (a .args .t) (i .if1 .taken)) (d .send-at .ensures)
+    does-as (a .args .t2) _ _ _ _ _ (sends _ (a .args .t) (i .if1 .taken)) (d .send-at .ensures)
 
 returns-2 : tie.Need-returns-2
 returns-2 c =
     let d = c .before .before in let i = d .before .before in let a = i .before .before .before .before .before .before in
-    does-as (a .args .t2) _ _ _ _ (arrives _ (a .args .t) (i .if2 .taken)) (d .arrive-at .ensures)
+    does-as (a .args .t2) _ _ _ _ _ (arrives _ (a .args .t) (i .if2 .taken)) (d .arrive-at .ensures)
 
 returns-3 : tie.Need-returns-3
 returns-3 c =
     let d = c .before .before in let i = d .before .before in let a = i .before .before .before .before .before .before .before .before in
-    does-as (a .args .t2) _ _ _ _ (damages _ (a .args .t) (i .if3 .taken)) (d .damage-at .ensures)
+    does-as (a .args .t2) _ _ _ _ _ (damages _ (a .args .t) (i .if3 .taken)) (d .damage-at .ensures)
 
 returns-4 : tie.Need-returns-4
 returns-4 c =
     let d = c .before .before in let i = d .before .before in let a = i .before .before .before .before .before .before .before .before .before .before in
-    does-as (a .args .t2) _ _ _ _ (loses _ (a .args .t) (i .if4 .taken)) (d .lose-at .ensures)
+    does-as (a .args .t2) _ _ _ _ _ (loses _ (a .args .t) (i .if4 .taken)) (d .lose-at .ensures)
 
 returns-5 : tie.Need-returns-5
 returns-5 c =

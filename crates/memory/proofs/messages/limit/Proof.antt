@@ -2,12 +2,13 @@
 -- Assumes nothing.
 use borrow.Author.Needs.{needs}
 use native.Mathlib.Omega.{arith}
-use mathlib.Core.Path.{_≡_, _∙_}
+use mathlib.Core.Path.{_≡_, refl, _∙_}
 use lib.ListN.{length}
 use Rattle.packets.proofs.Numbers.{number-below}
 use Rattle.words.specs.Memory.{sender-words}
 use Rattle.memory.proofs.SendingLaws.{credit-read, credit-back}
 use Rattle.memory.proofs.MessageLaws.{limited-past, limited-not, limited-goes}
+use Rattle.memory.proofs.KeepLaws.{made}
 use Rattle.memory.proofs.messages.limit.Statement.{statement}
 use Rattle.memory.proofs.messages.limit.Tie as tie
 
@@ -15,7 +16,7 @@ returns : tie.Need-returns
 returns c =
     let a = c .before .before .args in
     let l : length (a .s .now) ≡ sender-words = omega arith in
-    (limited-past _ (a .channel) (a .c) (a .limits) (c .if1 .taken), l)
+    (limited-past _ (a .channel) (a .c) (a .limits) (c .if1 .taken), (l, λ _. refl))
 
 returns-2 : tie.Need-returns-2
 returns-2 c =
@@ -28,7 +29,7 @@ returns-2 c =
       limited-not _ (a .channel) (a .c) (a .limits) (i .if1 .left) (k .credit-in .result)
           (k .credit-in .ensures ∙ credit-read (a .s .now) l (a .channel) (n .number .result) (a .c) (i .if1 .left) (n .number .ensures))
           (u .update-answer .result) (u .update-answer .ensures) (c .if2 .taken),
-      l,
+      (l, λ _. refl),
     )
 
 returns-3 : tie.Need-returns-3
@@ -46,7 +47,7 @@ returns-3 c =
       limited-goes _ (a .channel) (a .c) (a .limits) (i .if1 .left) (k .credit-in .result)
           (k .credit-in .ensures ∙ credit-read (a .s .now) l (a .channel) (n .number .result) (a .c) (i .if1 .left) (n .number .ensures))
           (u .update-answer .result) (u .update-answer .ensures) (d .before .if2 .left) _ (stored .0),
-      stored .1,
+      (stored .1, made),
     )
 
 pub limit-spec : {M : Type 1} → statement M
