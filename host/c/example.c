@@ -1,5 +1,13 @@
 /* Two ends in this program's memory exchange packets over lines that lose and damage frames by a fixed rule. Each frame and each packet
- * taken is printed, and at the end the counts. host/rust/examples/exchange.rs tells the same story in Rust. */
+ * taken is printed, and at the end the counts. host/rust/examples/exchange.rs tells the same story in Rust.
+ *
+ * expected.txt was worked out from document 01 and not from this program. As an example its first turns: class 7 is on channel 1, the
+ * highest, so 103 goes first, and 104 waits for that channel's one header unit; 101 is then the oldest on channel 0, and 102 waits behind
+ * it. 101 is the third frame and lost, so packets 2 and 3 are out of order; the Nak is the sixth and damaged, the flag stays set, and no
+ * second Nak goes out: the timers must start the replays. 105 and 106 each need the one non-posted unit of channel 0, and the update that
+ * would let 106 go is lost, until the Refresh. An update carries what the setup gave and all that was taken since: 2 writes on channel 0,
+ * of 8 and 32 words, make header 2 + 2 and data 8 + 2 + 8. */
+#include <stdbool.h>
 #include <stdio.h>
 
 #include "link.h"
@@ -37,19 +45,17 @@ static const struct submission SUBMISSIONS[] = {
 };
 
 /* Two channels; classes 1 to 6 are on channel 0, class 7 on channel 1. Both ends have the same units, (header, data). */
-static void make_setup(uint8_t bytes[LINK_SETUP_BYTES])
+static struct link_setup make_setup(void)
 {
     static const uint8_t units[2][LINK_CATEGORIES][2] = {{{2, 8}, {1, 1}, {1, 4}}, {{1, 8}, {1, 1}, {1, 4}}};
-    for (int i = 0; i < LINK_SETUP_BYTES; i++)
-        bytes[i] = 0;
-    bytes[0] = 2;
-    bytes[7] = 1;
-    for (int i = 0; i < 12; i++) {
-        int end = i / 6, channel = i / 3 % 2, category = i % 3;
-        int at = 8 + 48 * end + 12 * channel + 4 * category;
-        bytes[at] = units[channel][category][0];
-        bytes[at + 2] = units[channel][category][1];
+    struct link_setup setup = {{0}};
+    setup.bytes[0] = 2;
+    setup.bytes[7] = 1;
+    for (unsigned i = 0; i < 12; i++) {
+        unsigned end = i / 6, channel = i / 3 % 2, category = i % 3;
+        link_set_units(&setup, end, channel, category, units[channel][category][0], units[channel][category][1]);
     }
+    return setup;
 }
 
 static void submit_all(struct story *s)
@@ -57,42 +63,43 @@ static void submit_all(struct story *s)
     for (size_t i = 0; i < sizeof SUBMISSIONS / sizeof *SUBMISSIONS; i++) {
         int end = SUBMISSIONS[i].end;
         struct link_packet packet = SUBMISSIONS[i].packet;
-        uint8_t answer = end_submit(&s->ends[end], packet);
+        uint8_t answer = link_submit(&s->ends[end], packet);
         printf("%d submits ident %u: %u\n", end, packet.ident, answer);
         if (answer == 0)
             s->accepted[end]++;
     }
 }
 
-static void print_frame(const struct link_wire *w, uint32_t source)
+static void print_frame(struct link_frame f, uint32_t source)
 {
-    switch (w->tag) {
+    struct link_update u = link_update_in(f);
+    switch (link_kind(f)) {
     case LINK_PACKET:
-        printf("packet %u ident %u %s", w->number, w->packet.ident, SOURCES[source]);
+        printf("packet %u ident %u %s", link_number(f), link_packet_in(f).ident, SOURCES[source]);
         break;
     case LINK_UPDATE:
-        printf("update channel %u category %u header %u data %u", w->channel, w->category, w->header, w->units);
+        printf("update channel %u category %u header %u data %u", u.channel, u.category, u.header, u.data);
         break;
     default:
-        printf("%s %u", SOURCES[source], w->number);
+        printf("%s %u", SOURCES[source], link_number(f));
     }
 }
 
 /* One frame from an end to the other, if one applies. Of each seven frames the third is lost and the sixth damaged. */
 static bool send_one(struct story *s, int from)
 {
-    struct link_sending sending = end_send(&s->ends[from]);
-    if (sending.said.answer != 0)
+    struct link_sending sending = link_send(&s->ends[from]);
+    if (sending.answer != 0)
         return false;
     int to = 1 - from, turn = ++s->frames % 7;
     printf("%d to %d: ", from, to);
-    print_frame(&sending.wire, sending.said.detail);
+    print_frame(sending.frame, sending.detail);
     if (turn == 3) {
         s->lost++;
         printf(": lost\n");
         return true;
     }
-    struct link_said said = turn == 6 ? end_damage(&s->ends[to], sending.wire) : end_arrive(&s->ends[to], sending.wire);
+    struct link_said said = turn == 6 ? link_damage(&s->ends[to], sending.frame) : link_arrive(&s->ends[to], sending.frame);
     s->damaged += turn == 6;
     if (said.answer != 0)
         printf(": refused %u\n", said.answer);
@@ -104,7 +111,7 @@ static bool send_one(struct story *s, int from)
 static void take_queue(struct story *s, int end, uint8_t channel, uint8_t category)
 {
     struct link_said said;
-    while ((said = end_take(&s->ends[end], channel, category)).answer == 0) {
+    while ((said = link_take(&s->ends[end], channel, category)).answer == 0) {
         s->taken[end]++;
         printf("%d takes ident %u from channel %u category %u\n", end, said.detail, channel, category);
     }
@@ -114,35 +121,31 @@ static void take_queue(struct story *s, int end, uint8_t channel, uint8_t catego
 static void take_all(struct story *s, int end)
 {
     for (int i = 0; i < 6; i++)
-        take_queue(s, end, i / 3, i % 3);
+        take_queue(s, end, (uint8_t)(i / 3), (uint8_t)(i % 3));
 }
 
 /* No end has a frame to send: replays start, and where nothing is unacknowledged, all updates are marked. True once all is done. */
 static bool wake(struct story *s)
 {
-    uint8_t first = end_timer(&s->ends[0]), second = end_timer(&s->ends[1]);
+    uint8_t first = link_timer(&s->ends[0]), second = link_timer(&s->ends[1]);
     printf("timers: %u %u\n", first, second);
     if (first == 0 || second == 0)
         return false;
     if (s->taken[1] == s->accepted[0] && s->taken[0] == s->accepted[1])
         return true;
-    first = end_refresh(&s->ends[0]);
-    second = end_refresh(&s->ends[1]);
+    first = link_refresh(&s->ends[0]);
+    second = link_refresh(&s->ends[1]);
     printf("refresh: %u %u\n", first, second);
     return false;
 }
 
 int main(void)
 {
-    uint8_t bytes[LINK_SETUP_BYTES];
+    struct link_setup setup = make_setup();
     struct story s = {0};
-    make_setup(bytes);
-    for (uint8_t which = 0; which < 2; which++) {
-        struct link_started started = end_start(bytes, sizeof bytes, which);
-        if (started.answer != 0)
+    for (uint8_t which = 0; which < 2; which++)
+        if (link_start(&s.ends[which], &setup, which) != 0)
             return 1;
-        s.ends[which] = started.end;
-    }
     submit_all(&s);
     for (;;) {
         bool first = send_one(&s, 0), second = send_one(&s, 1);
@@ -152,8 +155,8 @@ int main(void)
             break;
     }
     for (int end = 0; end < 2; end++)
-        printf("end %d accepted %d taken %d retrains %u shape %u\n", end, s.accepted[end], s.taken[end], end_retrains(s.ends[end]),
-               end_shape(s.ends[end]));
+        printf("end %d accepted %d taken %d retrains %u shape %u\n", end, s.accepted[end], s.taken[end], link_retrains(&s.ends[end]),
+               link_shape(&s.ends[end]));
     printf("frames %d lost %d damaged %d\n", s.frames, s.lost, s.damaged);
     return 0;
 }
