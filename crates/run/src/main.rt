@@ -8,11 +8,14 @@ use runs::Run;
 use script::MOST_STEPS;
 use setup::Setup;
 ghost use Prim.Native.Nat.{_+_, _≤_};
+ghost use lib.ListN.{length};
 
 // The bytes that wait to be written.
 const OUT: usize = 8192;
 // The numbers of the longest script's steps, six for each.
 const NUMBERS: usize = 6 * MOST_STEPS;
+// Their answers and details.
+const ANSWERS: usize = 2 * MOST_STEPS;
 
 // Writes the first n bytes.
 fn write(out: &[u8], n: usize) {
@@ -32,27 +35,24 @@ fn made_room(out: &[u8], at: usize) -> usize
     0
 }
 
-// Runs the steps and writes a line for each.
-fn write_steps(start: Run, l: &[u32], count: usize) -> Run {
+// Writes a line for each step, from its answer and detail.
+fn write_steps(answers: &[u32]) {
+    let count = answers.len() / 2;
     let mut out = [0u8; OUT];
     let mut at = listing::header_line(&mut out);
-    let mut run = start;
     let mut i = 0;
     while i < count {
-        let a = run.advance(runs::step_from(l, i));
         let k = made_room(&out, at);
         let n = listing::step_line(
             &mut out[k..],
             (i % 4294967296) as u32,
-            a.answer as u32,
-            a.detail,
+            answers[2 * i],
+            answers[2 * i + 1],
         );
         at = k + n;
-        run = a.run;
         i += 1;
     }
     write(&out, at);
-    run
 }
 
 fn wide(x: u16) -> u32 {
@@ -69,12 +69,28 @@ fn write_end(run: Run, i: usize) {
     write(&line, n);
 }
 
-fn list(link: Setup, l: &[u32], count: usize) {
+// Runs the steps, six numbers for each, and writes the listing.
+fn list(link: Setup, l: &[u32])
+    requires { ⌜ length (now l) ≤ 32706 ⌝ }
+{
     let started = Pair::start(link);
     let p = started.pair;
-    let run = write_steps(Run::start(p), l, count);
+    let used = 2 * (l.len() / 6);
+    let mut answers = [0u32; ANSWERS];
+    let run = runs::run_listing(Run::start(p), l, &mut answers[..used]);
+    write_steps(&answers[..used]);
     write_end(run, 0);
     write_end(run, 1);
+}
+
+// The numbers of so many steps; no script has more than NUMBERS.
+fn numbers_of(count: usize) -> usize
+    ensures { λ r. ⌜ r ≤ 32706 ⌝ }
+{
+    if count < MOST_STEPS {
+        return 6 * count;
+    }
+    NUMBERS
 }
 
 fn main() {
@@ -92,5 +108,6 @@ fn main() {
         write(&line, m);
         return;
     }
-    list(got.setup, &numbers, got.count);
+    let used = numbers_of(got.count);
+    list(got.setup, &numbers[..used]);
 }

@@ -9,17 +9,17 @@ use Rattle.run.proofs.write_steps.Statement.{statement}
 use Rattle.run.proofs.write_steps.Tie as tie
 
 abbrev Inv-loop : tie.InvT-loop
-Inv-loop l count out₀ at₀ run₀ i₀ out at run i = (i ≤ count) × (length out ≡ 8192)
+Inv-loop answers count out₀ at₀ i₀ out at i = (i ≤ count) × (length out ≡ 8192)
 
 abbrev μ-loop : tie.MeasureT-loop
-μ-loop l count out₀ at₀ run₀ i₀ out at run i = count - i
+μ-loop answers count out₀ at₀ i₀ out at i = count - i
 
 loop-again : tie.Need-loop-again Inv-loop μ-loop
 loop-again c =
     let m = c .before .before .before .before .before in
-    let l = m .before .before .before .before .before in
-    let kept = simp (length-take, length-drop) at (c .before .before .step-line .kept) in
+    let l = m .before .before .before in
+    let kept = simp (length-take, length-drop) at (c .before .step-line .kept) in
     (omega arith, simp (length-append, length-take, length-drop) (omega (arith, kept, m .made-room .ensures, l .loop .inv .1)))
 
 pub write-steps-spec : {M : Type 1} → statement M
-write-steps-spec = tie.close (tie.spec Inv-loop μ-loop (λ c. search needs) (λ c κs. search needs) (λ c. (omega arith, omega (arith, c .before .header-line .kept))) (λ c κs. search needs) (λ c κs. search needs) (λ c. omega arith) (λ c κs. search needs) (λ c. omega arith) (λ c. omega arith) (λ c. omega arith) (λ c. omega arith) (λ c. omega arith) (λ c κs. search needs) (λ c. omega arith) (λ c. omega arith) (λ c. omega arith) loop-again (λ c. omega arith) (λ c κs. search needs) (λ c. search needs))
+write-steps-spec = tie.close (tie.spec Inv-loop μ-loop (λ c. search needs) (λ c κs. search needs) (λ c. (omega arith, omega (arith, c .before .header-line .kept))) (λ c. search needs) (λ c κs. search needs) (λ c. omega arith) (λ c. omega arith) (λ c. omega arith) (λ c. omega arith) (λ c. omega arith) (λ c. omega arith) (λ c. omega arith) (λ c. omega arith) (λ c. omega arith) (λ c. omega arith) (λ c. omega arith) (λ c κs. search needs) (λ c. omega arith) (λ c. omega arith) (λ c. omega arith) loop-again (λ c. search needs) (λ c κs. search needs) (λ c. search needs))

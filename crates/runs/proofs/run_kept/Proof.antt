@@ -37,9 +37,10 @@ returns c =
     let l = w .before .before in
     let s = l .before .before .before .before in
     let steps = stepsIn (now (s .args .l)) (length (now (s .args .l)) / 6) in
-    let st = stored-pair (s .args .r .pair) (pairIn (setupsOf (s .args .r .pair)) zeros) (l .setups-of .result) zeros (w .store .last .0) all-zeros (l .setups-of .ensures) (w .store .ensures .0) in
-    (run-back (l .setups-of .result) (w .store .last .0) (x .run-words .last .0) (s .args .r) (x .run-words .result) steps st (startOf blankSetup .pair) (c .before .before .load .result) (x .run-words .ensures .1 .0) (c .before .before .load .ensures) (x .run-words .ensures .0)
-    , answers-back (l .setups-of .result) (w .store .last .0) (x .run-words .last .0) (s .args .r) (x .run-words .result) steps st _ _ (x .run-words .ensures .1 .1))
+    let st = stored-pair (s .args .r .pair) (pairIn (setupsOf (s .args .r .pair)) zeros) (l .setups-of .result) zeros (w .store .last .0) all-zeros (l .setups-of .ensures) (w .store .ensures .0) in (
+      run-back (l .setups-of .result) (w .store .last .0) (x .run-words .last .0) (s .args .r) (x .run-words .result) steps st (startOf blankSetup .pair) (c .before .before .load .result) (x .run-words .ensures .1 .0) (c .before .before .load .ensures) (x .run-words .ensures .0),
+      answers-back (l .setups-of .result) (w .store .last .0) (x .run-words .last .0) (s .args .r) (x .run-words .result) steps st _ _ (x .run-words .ensures .1 .1),
+    )
 
 pub run-kept-spec : {M : Type 1} → statement M
 run-kept-spec = tie.close (tie.spec (λ c κs. search needs) (λ c. search needs) (λ c κs. search needs) (λ c. search needs) run-words-requires (λ c. search needs) (λ c κs. search needs) (λ c. search needs) returns)
