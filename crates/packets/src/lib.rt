@@ -4,7 +4,7 @@ use counters::Counts;
 use counters::Data;
 use counters::Header;
 ghost use mathlib.Core.Path.{_≡_};
-ghost use Rattle.packets.specs.Packets.{ruleOf, numberOf, numbered, same, categoryOf, kindAnswer, classAnswer, lengthAnswer, packetAnswer, needOf};
+ghost use Rattle.packets.specs.Packets.{rule, ruleOf, numberOf, numbered, same, categoryOf, kindAnswer, classAnswer, lengthAnswer, packetAnswer, needOf};
 
 // Each category of each channel has counters of its own.
 pub enum Category {
@@ -35,83 +35,33 @@ pub struct Rule {
     pub payload: bool,
 }
 
-// Kinds 0 to 9.
-const RULES: [Rule; 10] = [
+fn row(category: Category, least: u16, most: u16, payload: bool) -> Rule
+    ensures { λ r. ⌜ r ≡ rule category least most payload ⌝ }
+{
     Rule {
-        category: Category::NonPosted,
-        least: 1,
-        most: 1024,
-        payload: false,
-    },
-    Rule {
-        category: Category::Posted,
-        least: 1,
-        most: 1024,
-        payload: true,
-    },
-    Rule {
-        category: Category::NonPosted,
-        least: 1,
-        most: 1,
-        payload: false,
-    },
-    Rule {
-        category: Category::NonPosted,
-        least: 1,
-        most: 1,
-        payload: true,
-    },
-    Rule {
-        category: Category::NonPosted,
-        least: 1,
-        most: 1,
-        payload: false,
-    },
-    Rule {
-        category: Category::NonPosted,
-        least: 1,
-        most: 1,
-        payload: true,
-    },
-    Rule {
-        category: Category::Posted,
-        least: 0,
-        most: 0,
-        payload: false,
-    },
-    Rule {
-        category: Category::Posted,
-        least: 1,
-        most: 1024,
-        payload: true,
-    },
-    Rule {
-        category: Category::Completion,
-        least: 0,
-        most: 0,
-        payload: false,
-    },
-    Rule {
-        category: Category::Completion,
-        least: 1,
-        most: 1024,
-        payload: true,
-    },
-];
+        category,
+        least,
+        most,
+        payload,
+    }
+}
 
-// The rule of a kind. A kind over 9 is refused before its rule counts.
+// The rule of a kind. A kind over 9 is refused before its rule counts. A `match`, since a table would be written anew at each call.
 pub fn rule_of(kind: u8) -> Rule
     ensures { λ r. ⌜ r ≡ ruleOf kind ⌝ }
 {
-    let k = kind as usize;
-    if k < 10 {
-        return RULES[k];
-    }
-    Rule {
-        category: Category::Posted,
-        least: 0,
-        most: 0,
-        payload: false,
+    match kind {
+        0 => row(Category::NonPosted, 1, 1024, false),
+        1 => row(Category::Posted, 1, 1024, true),
+        2 => row(Category::NonPosted, 1, 1, false),
+        3 => row(Category::NonPosted, 1, 1, true),
+        4 => row(Category::NonPosted, 1, 1, false),
+        5 => row(Category::NonPosted, 1, 1, true),
+        6 => row(Category::Posted, 0, 0, false),
+        7 => row(Category::Posted, 1, 1024, true),
+        8 => row(Category::Completion, 0, 0, false),
+        9 => row(Category::Completion, 1, 1024, true),
+        _ => row(Category::Posted, 0, 0, false),
     }
 }
 
