@@ -1,4 +1,5 @@
--- What a step does to the one element of an end that it changes. Assumes nothing.
+-- What a step does to the one element of an end that it changes, so that the end itself is not copied. No public promise cites these: each
+-- is proved to be its part of ends/Ends (proofs/Submits, proofs/Takes). Assumes nothing.
 use Prim.Native.Nat.{ℕ}
 use lib.Dec.{leb, ltb, eqb}
 use lib.ListN.{length}

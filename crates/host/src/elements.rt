@@ -11,7 +11,6 @@ use setup::CHANNELS;
 use setup::Setup;
 use store::Packets;
 ghost use mathlib.Core.Path.{_≡_};
-ghost use Rattle.delivery.specs.Delivery.{isBefore};
 ghost use Rattle.ends.specs.Ends.{submitOf, takeAt};
 ghost use Rattle.host.specs.Elements.{tooMuch, tooMany, joinAnswer, queueFor, joined, nowhere, askedOf, keeps, handedOf, handedOut};
 ghost use Rattle.host.specs.Host.{saidOf};
@@ -137,16 +136,6 @@ fn keeps(answer: u8, inbox: Packets, room: Room) -> Handed
     Handed { said, inbox, room }
 }
 
-// Does what was found stand before this place?
-fn is_before(f: Found, place: usize) -> bool
-    ensures { λ r. ⌜ r ≡ isBefore f place ⌝ }
-{
-    match f {
-        Found::At(i) => i < place,
-        Found::Nothing => false,
-    }
-}
-
 // The oldest packet of this category leaves its inbox: its units are free again, and their update is marked.
 fn handed_of(c: Category, inbox: Packets, room: Room) -> Handed
     ensures { λ r. ⌜ r ≡ handedOf c inbox room ⌝ }
@@ -154,7 +143,7 @@ fn handed_of(c: Category, inbox: Packets, room: Room) -> Handed
     let Found::At(place) = inbox.oldest(c) else {
         return keeps(21, inbox, room);
     };
-    if is_before(inbox.oldest(Category::Posted), place) {
+    if delivery::is_before(inbox.oldest(Category::Posted), place) {
         return keeps(22, inbox, room);
     }
     let p = inbox.at(place);

@@ -28,7 +28,7 @@ run-words-requires c κs =
     let w = c .before .before .before .before .before in
     let l = w .before .before in
     let s = l .before .before .before .before in
-    stored-lasts (s .args .r .pair) (pairIn (setupsOf (s .args .r .pair)) zeros) (l .setups-of .result) zeros (w .store .last .0) all-zeros (l .setups-of .ensures) (w .store .ensures .0) (w .store .ensures .1) (s .pre)
+    stored-lasts (s .args .r .pair) (pairIn (setupsOf (s .args .r .pair)) zeros) (l .setups-of .result) zeros (w .store .last .0) all-zeros (l .setups-of .ensures) (w .store .ensures .0) (w .store .ensures .1 .0) (s .pre)
 
 returns : tie.Need-returns
 returns c =

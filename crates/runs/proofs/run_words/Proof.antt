@@ -47,7 +47,7 @@ loop-again c =
     kept-turn (a .links) (m .loop .m) (v .step .last .0) (m .loop .c) _ (v .step .result .answer) (v .step .result .detail) (m .loop .inv .3) (λ k. told k .answer) (λ k. told k .detail)
     (rw whole at (v .step .ensures .1 .0)) (runIn (a .links) (now (a .m)) (a .start)) (now (a .l)) (now (a .out)) (m .loop .out) i (m .loop .inv .4) (m .loop .inv .5)
     (rw six at (s .step-in .ensures)) in
-    (omega arith, v .step .ensures .1 .1 ∙ m .loop .inv .1, rw (n .note .ensures) (next .0), next .3, rw (c .after .ensures) (next .1), rw (n .note .ensures) (next .2))
+    (omega arith, v .step .ensures .1 .1 .0 ∙ m .loop .inv .1, rw (n .note .ensures) (next .0), next .3, rw (c .after .ensures) (next .1), rw (n .note .ensures) (next .2))
 
 returns : tie.Need-returns Inv-loop μ-loop
 returns c =
