@@ -1,6 +1,6 @@
-// One end for a host in C or Rust, kept in the host's memory as words and stepped there with no copy. A struct behind a reference that
-// holds an enum cannot be exported, so the words are lent: the end's, then those of its setup. No step looks at the shape of the end:
-// `end_shape` does. A step that is refused leaves every word as it was. Assumes nothing: memory of another length is refused.
+// One end in memory that its host lends as words, its setup behind it, stepped there with no copy; ends_export has the same for a host in
+// C or Rust. No step looks at the shape of the end: `end_shape` does. A step that is refused leaves every word as it was. Assumes
+// nothing: memory of another length is refused.
 use crate::END;
 use crate::Said;
 use crate::Source;
@@ -24,7 +24,7 @@ ghost use Rattle.memory.specs.Hosted.{hosted-words, hostedIn, isHosted, 
 // The words of an end and its setup.
 const HOSTED: usize = END + SETUP;
 
-// What Send says. A frame is two words; where there is none, both are 0.
+// What Send says. A frame is two words; where there is none, both are 0. A host in C reads it: hence its layout.
 #[repr(C)]
 pub struct Sending {
     pub answer: u8,
@@ -45,8 +45,7 @@ fn no_frame(answer: u8) -> Sending
 }
 
 // A packet joins its channel's send queue.
-#[no_mangle]
-pub extern "C" fn end_submit(m: &mut [u64], kind: u8, class: u8, length: u16, ident: u32) -> u8
+pub fn end_submit(m: &mut [u64], kind: u8, class: u8, length: u16, ident: u32) -> u8
     ensures { λ r. ⌜ r ≡ answerIn (now (m .entry)) (submitOf (hostedIn (now (m .entry))) (packet kind class length ident)) ⌝ }
     ensures { λ r. ⌜ Leaves (isHosted (now (m .entry))) r (now (m .entry)) (now (m .exit)) (submitOf (hostedIn (now (m .entry))) (packet kind class length ident) .end) ⌝ }
 {
@@ -64,8 +63,7 @@ pub extern "C" fn end_submit(m: &mut [u64], kind: u8, class: u8, length: u16, id
 }
 
 // The frame of these two words arrives whole.
-#[no_mangle]
-pub extern "C" fn end_arrive(m: &mut [u64], head: u64, rest: u64) -> Said
+pub fn end_arrive(m: &mut [u64], head: u64, rest: u64) -> Said
     ensures { λ r. ⌜ r ≡ saidIn (now (m .entry)) (arriveOf (hostedIn (now (m .entry))) (frameIn head rest)) ⌝ }
     ensures { λ r. ⌜ Leaves (isHosted (now (m .entry))) (r .answer) (now (m .entry)) (now (m .exit)) (arriveOf (hostedIn (now (m .entry))) (frameIn head rest) .end) ⌝ }
 {
@@ -77,8 +75,7 @@ pub extern "C" fn end_arrive(m: &mut [u64], head: u64, rest: u64) -> Said
 }
 
 // The frame of these two words arrives damaged.
-#[no_mangle]
-pub extern "C" fn end_damage(m: &mut [u64], head: u64, rest: u64) -> Said
+pub fn end_damage(m: &mut [u64], head: u64, rest: u64) -> Said
     ensures { λ r. ⌜ r ≡ saidIn (now (m .entry)) (damageOf (hostedIn (now (m .entry))) (frameIn head rest)) ⌝ }
     ensures { λ r. ⌜ Leaves (isHosted (now (m .entry))) (r .answer) (now (m .entry)) (now (m .exit)) (damageOf (hostedIn (now (m .entry))) (frameIn head rest) .end) ⌝ }
 {
@@ -89,8 +86,7 @@ pub extern "C" fn end_damage(m: &mut [u64], head: u64, rest: u64) -> Said
 }
 
 // The oldest packet of a channel and category leaves.
-#[no_mangle]
-pub extern "C" fn end_take(m: &mut [u64], channel: u8, category: u8) -> Said
+pub fn end_take(m: &mut [u64], channel: u8, category: u8) -> Said
     ensures { λ r. ⌜ r ≡ saidIn (now (m .entry)) (takeAt (hostedIn (now (m .entry))) channel category) ⌝ }
     ensures { λ r. ⌜ Leaves (isHosted (now (m .entry))) (r .answer) (now (m .entry)) (now (m .exit)) (takeAt (hostedIn (now (m .entry))) channel category .end) ⌝ }
 {
@@ -101,8 +97,7 @@ pub extern "C" fn end_take(m: &mut [u64], channel: u8, category: u8) -> Said
     crate::one_end::take(&mut m[0..END], n, channel, category)
 }
 
-#[no_mangle]
-pub extern "C" fn end_timer(m: &mut [u64]) -> u8
+pub fn end_timer(m: &mut [u64]) -> u8
     ensures { λ r. ⌜ r ≡ answerIn (now (m .entry)) (timerOf (hostedIn (now (m .entry)))) ⌝ }
     ensures { λ r. ⌜ Leaves (isHosted (now (m .entry))) r (now (m .entry)) (now (m .exit)) (timerOf (hostedIn (now (m .entry))) .end) ⌝ }
 {
@@ -112,8 +107,7 @@ pub extern "C" fn end_timer(m: &mut [u64]) -> u8
     crate::one_end::timer(&mut m[0..END])
 }
 
-#[no_mangle]
-pub extern "C" fn end_refresh(m: &mut [u64]) -> u8
+pub fn end_refresh(m: &mut [u64]) -> u8
     ensures { λ r. ⌜ r ≡ answerIn (now (m .entry)) (refreshOf (hostedIn (now (m .entry)))) ⌝ }
     ensures { λ r. ⌜ Leaves (isHosted (now (m .entry))) r (now (m .entry)) (now (m .exit)) (refreshOf (hostedIn (now (m .entry))) .end) ⌝ }
 {
@@ -126,8 +120,7 @@ pub extern "C" fn end_refresh(m: &mut [u64]) -> u8
 }
 
 // The first frame that applies; 18 where none does.
-#[no_mangle]
-pub extern "C" fn end_send(m: &mut [u64]) -> Sending
+pub fn end_send(m: &mut [u64]) -> Sending
     ensures { λ r. ⌜ Sends (now (m .entry)) (now (m .exit)) r ⌝ }
     ensures { λ r. ⌜ Leaves (isHosted (now (m .entry))) (r .answer) (now (m .entry)) (now (m .exit)) (sendOf (hostedIn (now (m .entry))) .end) ⌝ }
 {
@@ -148,8 +141,7 @@ pub extern "C" fn end_send(m: &mut [u64]) -> Sending
 }
 
 // 10 where the end is out of shape, or there is none.
-#[no_mangle]
-pub extern "C" fn end_shape(m: &[u64]) -> u8
+pub fn end_shape(m: &[u64]) -> u8
     ensures { λ r. ⌜ r ≡ shapeAnswer (now (m .entry)) ⌝ }
 {
     if m.len() != HOSTED {
@@ -161,8 +153,7 @@ pub extern "C" fn end_shape(m: &[u64]) -> u8
 }
 
 // How often the link was trained again.
-#[no_mangle]
-pub extern "C" fn end_retrains(m: &[u64]) -> u16
+pub fn end_retrains(m: &[u64]) -> u16
     ensures { λ r. ⌜ r ≡ retrainsIn (now (m .entry)) ⌝ }
 {
     if m.len() != HOSTED {
@@ -194,8 +185,7 @@ fn store_hosted(m: &mut [u64], e: End)
 }
 
 // Starts an end of a pair, from the setup's bytes in a script.
-#[no_mangle]
-pub extern "C" fn end_start(m: &mut [u64], b: &[u8], which: u8) -> u8
+pub fn end_start(m: &mut [u64], b: &[u8], which: u8) -> u8
     ensures { λ r. ⌜ r ≡ startAnswer (now (m .entry)) (now (b .entry)) which ⌝ }
     ensures { λ r. ⌜ Leaves (eqb r 0) r (now (m .entry)) (now (m .exit)) (startedEnd (now (b .entry)) which) ⌝ }
 {

@@ -1,4 +1,4 @@
-// A pair in memory that its host lends as words, stepped there: no step copies more than one word at a time. What the words mean
+// A pair in memory that its host lends as words, stepped there: no step copies a list, an end or a line. What the words mean
 // stands in words/specs/Memory. No step looks at the shape of the pair. A step that is refused leaves every word as it was.
 // Assumes nothing: `step` takes every memory.
 pub mod hosts;
@@ -38,7 +38,7 @@ const END: usize = sending::SENDER + receiving::RECEIVER;
 // Where the lines stand.
 const LINES_AT: usize = 948;
 
-// What a step says.
+// What a step says. A host in C reads it: hence its layout.
 #[repr(C)]
 pub struct Said {
     pub answer: u8,
