@@ -1,6 +1,6 @@
 /* One end of a PCI Express link, kept in its host's memory and stepped there. Document 01 is the rule.
  *
- * Link with libmemory.a. Its functions are proved: for all values each does what its definition says (crates/memory/specs/Hosted.antt),
+ * Link with libends_export.a. Its functions are proved: for all values each does what its definition says (crates/memory/specs/Hosted.antt),
  * and ends. An answer of 0 is no refusal. A refusal leaves every word as it was, and its detail is 0:
  *
  *    5  setup out of range
