@@ -1,6 +1,6 @@
 //! Holds the proved library against the plain model: both read and run the same random scripts and malformed inputs,
 //! and must show the same. The first difference ends it, with the input in a file.
-//! Usage: compare [SCRIPTS [MALFORMED]]; by default 20,000 of each.
+//! Usage: compare [SCRIPTS [MALFORMED]]; by default 200,000 of each.
 
 mod sides;
 
@@ -13,7 +13,7 @@ use model::script::{RECORD_BYTES, SHORTEST};
 use sides::{plain, proved, Case, Shown};
 
 const FIRST_SEED: u64 = 1;
-const DEFAULT: u64 = 20_000;
+const DEFAULT: u64 = 200_000;
 /// The most steps of a short script.
 const SHORT: u32 = 59;
 /// Of so many rounds of all profiles one has scripts of any length.
