@@ -67,7 +67,7 @@ struct link_update {
     uint16_t data;
 };
 
-/* A frame as it goes over a line. Bits, the lowest first; those not named have no meaning:
+/* A frame as it goes over a line. Bits, the lowest first; those not named have no meaning, and are 0 where the library gives a frame:
  *
  *    head  0 to 1  kind
  *          2 to 17  packet, Ack, Nak: number

@@ -8,7 +8,7 @@ ghost use Rattle.ends.specs.Ends.{submitOf, arriveOf, damageOf, takeAt, timerOf
 ghost use Rattle.ends.specs.Sends.{sendOf};
 ghost use Rattle.pairs.specs.Pairs.{endAt, startOf};
 ghost use Rattle.words.specs.Words.{frameIn};
-ghost use Rattle.memory.specs.Hosted.{hosted-words, hostedIn, isHosted, answerIn, saidIn, packet, Leaves, sending, Sends, startAnswer, startedEnd, shapeAnswer, retrainsIn};
+ghost use Rattle.memory.specs.Hosted.{hosted-words, hostedIn, isHosted, answerIn, saidIn, packet, Leaves, sentIn, startAnswer, startedEnd, shapeAnswer, retrainsIn};
 
 // A packet joins its channel's send queue.
 #[no_mangle]
@@ -65,7 +65,7 @@ pub extern "C" fn end_refresh(m: &mut [u64]) -> u8
 // The first frame that applies; 18 where none does.
 #[no_mangle]
 pub extern "C" fn end_send(m: &mut [u64]) -> Sending
-    ensures { λ r. ⌜ Sends (now (m .entry)) (now (m .exit)) r ⌝ }
+    ensures { λ r. ⌜ r ≡ sentIn (now (m .entry)) (sendOf (hostedIn (now (m .entry)))) ⌝ }
     ensures { λ r. ⌜ Leaves (isHosted (now (m .entry))) (r .answer) (now (m .entry)) (now (m .exit)) (sendOf (hostedIn (now (m .entry))) .end) ⌝ }
 {
     memory::hosts::end_send(m)

@@ -14,7 +14,6 @@ use Rattle.basics.specs.Choice.{if_then_else_}
 use Rattle.basics.specs.Parts.{part}
 use Rattle.basics.proofs.Places.{getD-any}
 use Rattle.frames.specs.declared.Frame.{Frame}
-use Rattle.line.specs.declared.Front.the-variants as Front
 use Rattle.setup.specs.declared.Found.{Found}
 use Rattle.setup.specs.declared.Setup.{Setup}
 use Rattle.setup.specs.declared.Units.{Units}
@@ -31,7 +30,8 @@ use Rattle.ends.specs.Sends.{sendOf}
 use Rattle.ends.specs.Ends.{end, endOf, refreshOf}
 use Rattle.pairs.specs.declared.Paired.{Paired}
 use Rattle.pairs.specs.Pairs.{endAt, pairOf, startOf}
-use Rattle.words.specs.Words.{frameIn}
+use Rattle.words.specs.declared.Pairing.{Pairing}
+use Rattle.words.specs.Words.{frameIn, headWord, restWord}
 use Rattle.words.specs.Memory.{sender-words, end-words, senderIn, sendingIn, receivingIn, endIn}
 use Rattle.words.proofs.Patched.{patched, back-patched, length-patched, part-same, part-before, part-after, part-set-after}
 use Rattle.memory.specs.declared.Given.{Given}
@@ -39,7 +39,7 @@ use Rattle.memory.specs.declared.Source.{Source}
 use Rattle.memory.specs.declared.Source.the-variants as Source
 use Rattle.memory.specs.declared.hosts.Sending.{Sending}
 use Rattle.memory.specs.Sources.{sourceOf, frameFrom, senderAfter, receiverAfter, detailFrom}
-use Rattle.memory.specs.Hosted.{setup-words, units-at, unitsIn, classIn, setupIn, hosted-words, linkIn, hostedIn, isHosted, Leaves, sending, sentIn, Sends, startAnswer, startedEnd, shapeAnswer, retrainsIn}
+use Rattle.memory.specs.Hosted.{setup-words, units-at, unitsIn, classIn, setupIn, hosted-words, linkIn, hostedIn, isHosted, Leaves, sending, sendingBy, sentIn, startAnswer, startedEnd, shapeAnswer, retrainsIn}
 use Rattle.memory.specs.Said.{Keeps}
 use Rattle.memory.proofs.KeepLaws.{made, keeps-back}
 use Rattle.memory.proofs.SourceLaws.{sentFrom, sends-as}
@@ -104,30 +104,35 @@ refresh-answer e = refl
 
 -- ---- Send
 
-pub sends-refused : (m : List ℕ) → (length m ≡ hosted-words → ⊥) → (r : Sending) → r ≡ sending 10 0 0 0
-    → Sends m m r × Leaves (isHosted m) (r .answer) m m (sendOf (hostedIn m) .end)
+abbrev Sends : List ℕ → List ℕ → Sending → Type 0
+Sends m w r = (r ≡ sentIn m (sendOf (hostedIn m))) × Leaves (isHosted m) (r .answer) m w (sendOf (hostedIn m) .end)
+
+abbrev sending-of : Sent → Sending
+sending-of s = sendingBy (s .frame) (s .answer) (s .detail)
+
+pub sends-refused : (m : List ℕ) → (length m ≡ hosted-words → ⊥) → (r : Sending) → r ≡ sending 10 0 0 0 → Sends m m r
 sends-refused m h r e =
     let t : isHosted m ≡ false = ne-eqb (length m) hosted-words h in
-    ((λ is. absurd (true≢false (sym is ∙ t)), (λ _. e, λ _. e ∙ ap (λ (x : Sending). sending (x .answer) 0 0 0) (sym e))), stays (isHosted m) (r .answer) m (sendOf (hostedIn m) .end) t)
+    (rw t e, stays (isHosted m) (r .answer) m (sendOf (hostedIn m) .end) t)
 
 module _ (m : List ℕ) (long : length m ≡ hosted-words) where
-  sends : (w : List ℕ) (r : Sending) → length w ≡ length m → Keeps (eqb (r .answer) 0) m w → sentIn w r ≡ sendOf (hostedIn m)
-      → (eqb (r .answer) 0 ≡ false → r ≡ sending (r .answer) 0 0 0) → Sends m w r × Leaves (isHosted m) (r .answer) m w (sendOf (hostedIn m) .end)
-  sends w r same keeps is none =
-      let t : isHosted m ≡ true = eq-eqb (length m) hosted-words long in
-      ((λ _. is, (λ (n : isHosted m ≡ false). absurd (true≢false (sym t ∙ n)), none)), (λ _. ap (λ (x : Sent). x .end) is, (keeps, same)))
+  sends : (s : Sent) → sendOf (hostedIn m) ≡ s → (w : List ℕ) (r : Sending) → length w ≡ length m → Keeps (eqb (r .answer) 0) m w
+      → r ≡ sending-of s → hostedIn w ≡ s .end → Sends m w r
+  sends s is w r same keeps told ended =
+      (rw (eq-eqb (length m) hosted-words long) (told ∙ ap sending-of (sym is)), (λ _. ended ∙ ap (λ (x : Sent). x .end) (sym is), (keeps, same)))
 
   module _ (x : Source) (ex : x ≡ sourceOf (sendingIn (part m 0 end-words)) (receivingIn (part m 0 end-words))) where
     is : sendOf (hostedIn m) ≡ sentFrom (hostedIn m) x
     unfolding hostedIn endIn
     is = sends-as (hostedIn m) ∙ ap (λ (y : Source). sentFrom (hostedIn m) y) (sym ex)
 
-    pub sends-none : x ≡ Source.Nothing → (r : Sending) → r ≡ sending 18 0 0 0 → Sends m m r × Leaves (isHosted m) (r .answer) m m (sendOf (hostedIn m) .end)
-    sends-none z r e = sends m r refl (λ _. refl) (rw e (sym (rw z at is))) (λ _. e ∙ ap (λ (y : Sending). sending (y .answer) 0 0 0) (sym e))
+    pub sends-none : x ≡ Source.Nothing → (r : Sending) → r ≡ sending 18 0 0 0 → Sends m m r
+    sends-none z r e = sends (sentFrom (hostedIn m) Source.Nothing) (rw z at is) m r refl (λ _. refl) e refl
 
     module _ (ys : List ℕ) (l : length ys ≡ end-words) (g : Given)
         (frame : (frameIn (g .head) (g .rest) ≡ frameFrom (sendingIn (part m 0 end-words)) (receivingIn (part m 0 end-words)) x) × (g .detail ≡ detailFrom x))
-        (halves : (sendingIn ys ≡ senderAfter (sendingIn (part m 0 end-words)) x) × (receivingIn ys ≡ receiverAfter (receivingIn (part m 0 end-words)) x)) where
+        (halves : (sendingIn ys ≡ senderAfter (sendingIn (part m 0 end-words)) x) × (receivingIn ys ≡ receiverAfter (receivingIn (part m 0 end-words)) x))
+        (f : Frame) (ef : f ≡ frameIn (g .head) (g .rest)) (w : Pairing) (ew : (w .head ≡ headWord f) × (w .rest ≡ restWord f)) where
       after : hostedIn (patched m 0 ys) ≡ end (hostedIn m .setup) (senderAfter (hostedIn m .sender) x) (receiverAfter (hostedIn m .receiver) x)
       unfolding hostedIn endIn
       after =
@@ -135,16 +140,18 @@ module _ (m : List ℕ) (long : length m ≡ hosted-words) where
           ∙ ap (λ (s : Sender). end (hostedIn m .setup) s (receivingIn ys)) (halves .0)
           ∙ ap (λ (r : Receiver). end (hostedIn m .setup) (senderAfter (hostedIn m .sender) x) r) (halves .1)
 
-      front : Front.Frame (frameIn (g .head) (g .rest)) ≡ Front.Frame (frameFrom (hostedIn m .sender) (hostedIn m .receiver) x)
+      frame-is : f ≡ frameFrom (hostedIn m .sender) (hostedIn m .receiver) x
       unfolding hostedIn endIn
-      front = ap (λ (f : Frame). Front.Frame f) (frame .0)
+      frame-is = ef ∙ frame .0
 
-      pub sends-frame : x ≢ Source.Nothing → Sends m (ys ++ drop end-words m) (sending 0 (g .detail) (g .head) (g .rest))
-          × Leaves (isHosted m) 0 m (ys ++ drop end-words m) (sendOf (hostedIn m) .end)
+      told : (y : Frame) → f ≡ y → sending 0 (g .detail) (w .head) (w .rest) ≡ sending 0 (detailFrom x) (headWord y) (restWord y)
+      told y e = rw (frame .1, ew .0, ew .1, e)
+
+      pub sends-frame : x ≢ Source.Nothing → Sends m (ys ++ drop end-words m) (sending 0 (g .detail) (w .head) (w .rest))
       sends-frame some =
           rw (back-patched m 0 end-words ys l)
-          (sends (patched m 0 ys) (sending 0 (g .detail) (g .head) (g .rest)) (length-patched m 0 ys (omega arith)) made
-          (rw (after, front, frame .1) (sym (is ∙ some-given (hostedIn m) x some))) (λ n. absurd (true≢false n)))
+          (sends _ (is ∙ some-given (hostedIn m) x some) (patched m 0 ys) (sending 0 (g .detail) (w .head) (w .rest)) (length-patched m 0 ys (omega arith)) made
+          (told _ frame-is) after)
 
 -- ---- the shape, and how often the link was trained again
 

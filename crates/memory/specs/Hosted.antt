@@ -19,9 +19,8 @@ use Rattle.shape.specs.Shape.{inShape}
 use Rattle.ends.specs.declared.End.{End}
 use Rattle.ends.specs.declared.Sent.{Sent}
 use Rattle.ends.specs.declared.Stepped.{Stepped}
-use Rattle.ends.specs.Sends.{sent, sendOf}
 use Rattle.pairs.specs.Pairs.{endAt, startOf}
-use Rattle.words.specs.Words.{frameIn}
+use Rattle.words.specs.Words.{headWord, restWord}
 use Rattle.words.specs.Memory.{end-words, endIn}
 use Rattle.memory.specs.declared.Said.{Said}
 use Rattle.memory.specs.declared.hosts.Sending.{Sending}
@@ -76,22 +75,18 @@ packet kind class length ident = record { kind = kind; class = class; length = l
 abbrev pub Leaves : Bool → ℕ → List ℕ → List ℕ → End → Type 0
 Leaves t answer m w e = (t ≡ true → hostedIn w ≡ e) × (Keeps (eqb answer 0) m w × (length w ≡ length m))
 
--- ---- Send: a frame is two words; where there is none, both are 0
+-- ---- Send: a frame is its two words (words/Words); where there is none, both are 0
 
 abbrev pub sending : ℕ → ℕ → ℕ → ℕ → Sending
 sending answer detail head rest = record { answer = answer; detail = detail; head = head; rest = rest }
 
-abbrev pub frontIn : Sending → Front
-frontIn x = if eqb (x .answer) 0 then Front.Frame (frameIn (x .head) (x .rest)) else Front.Nothing
+abbrev pub sendingBy : Front → ℕ → ℕ → Sending
+sendingBy (Front.Frame f) answer detail = sending answer detail (headWord f) (restWord f)
+sendingBy Front.Nothing answer detail = sending answer detail 0 0
 
--- what Send did at the end of these words
-abbrev pub sentIn : List ℕ → Sending → Sent
-sentIn w x = sent (hostedIn w) (frontIn x) (x .answer) (x .detail)
-
-abbrev pub Sends : List ℕ → List ℕ → Sending → Type 0
-Sends m w x =
-    (isHosted m ≡ true → sentIn w x ≡ sendOf (hostedIn m))
-    × ((isHosted m ≡ false → x ≡ sending 10 0 0 0) × (eqb (x .answer) 0 ≡ false → x ≡ sending (x .answer) 0 0 0))
+-- 10 where the memory holds no end
+abbrev pub sentIn : List ℕ → Sent → Sending
+sentIn m s = if isHosted m then sendingBy (s .frame) (s .answer) (s .detail) else sending 10 0 0 0
 
 -- ---- the start: 7 memory of another length, 5 no setup in range, 11 end not 0 or 1
 

@@ -11,6 +11,8 @@ use ends::End;
 use packets::Packet;
 use pairs::Pair;
 use setup::Setup;
+use words::frame_in;
+use words::frame_words;
 ghost use mathlib.Core.Path.{_≡_};
 ghost use Prim.Native.Nat.{_≤_};
 ghost use lib.Dec.{eqb};
@@ -19,7 +21,7 @@ ghost use Rattle.ends.specs.Ends.{submitOf, arriveOf, damageOf, takeAt, timerOf
 ghost use Rattle.ends.specs.Sends.{sendOf};
 ghost use Rattle.pairs.specs.Pairs.{endAt, startOf};
 ghost use Rattle.words.specs.Words.{frameIn};
-ghost use Rattle.memory.specs.Hosted.{hosted-words, hostedIn, isHosted, answerIn, saidIn, packet, Leaves, sending, Sends, startAnswer, startedEnd, shapeAnswer, retrainsIn};
+ghost use Rattle.memory.specs.Hosted.{hosted-words, hostedIn, isHosted, answerIn, saidIn, packet, Leaves, sending, sentIn, startAnswer, startedEnd, shapeAnswer, retrainsIn};
 
 // The words of an end and its setup.
 const HOSTED: usize = END + SETUP;
@@ -121,7 +123,7 @@ pub fn end_refresh(m: &mut [u64]) -> u8
 
 // The first frame that applies; 18 where none does.
 pub fn end_send(m: &mut [u64]) -> Sending
-    ensures { λ r. ⌜ Sends (now (m .entry)) (now (m .exit)) r ⌝ }
+    ensures { λ r. ⌜ r ≡ sentIn (now (m .entry)) (sendOf (hostedIn (now (m .entry)))) ⌝ }
     ensures { λ r. ⌜ Leaves (isHosted (now (m .entry))) (r .answer) (now (m .entry)) (now (m .exit)) (sendOf (hostedIn (now (m .entry))) .end) ⌝ }
 {
     if m.len() != HOSTED {
@@ -132,11 +134,13 @@ pub fn end_send(m: &mut [u64]) -> Sending
         return no_frame(18);
     }
     let g = crate::sources::give(&mut m[0..END], x);
+    // The words anew: bits without meaning are 0.
+    let w = frame_words(frame_in(g.head, g.rest));
     Sending {
         answer: 0,
         detail: g.detail,
-        head: g.head,
-        rest: g.rest,
+        head: w.head,
+        rest: w.rest,
     }
 }
 

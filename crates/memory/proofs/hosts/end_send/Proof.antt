@@ -26,9 +26,10 @@ returns-2 c =
 
 returns-3 : tie.Need-returns-3
 returns-3 c =
-    let g = c .before .before in let e = g .before .before in let f = e .before in let i = f .before .before .before in
+    let t = c .before in let g = t .before .before .before in let e = g .before .before in let f = e .before in let i = f .before .before .before in
     sends-frame (now (i .before .before .args .m)) (i .if1 .left) (f .first-source .result) (f .first-source .ensures) (g .give .last .0) (g .give .ensures .1 .1)
-    (g .give .result) (g .give .ensures .0) (g .give .ensures .1 .0) (some _ (e .match .keys2))
+    (g .give .result) (g .give .ensures .0) (g .give .ensures .1 .0) (t .frame-in .result) (t .frame-in .ensures) (c .frame-words .result) (c .frame-words .ensures .0)
+    (some _ (e .match .keys2))
 
 pub end-send-spec : {M : Type 1} → statement M
-end-send-spec = tie.close (tie.spec (λ c κs. search needs) returns (λ c. search needs) (λ c. search needs) (λ c. search needs) (λ c κs. search needs) (λ c. search needs) (λ c κs. search needs) (λ c. search needs) returns-2 (λ c. search needs) (λ c. search needs) (λ c. search needs) give-requires (λ c. search needs) returns-3)
+end-send-spec = tie.close (tie.spec (λ c κs. search needs) returns (λ c. search needs) (λ c. search needs) (λ c. search needs) (λ c κs. search needs) (λ c. search needs) (λ c κs. search needs) (λ c. search needs) returns-2 (λ c. search needs) (λ c. search needs) (λ c. search needs) give-requires (λ c κs. search needs) (λ c κs. search needs) (λ c. search needs) returns-3)
