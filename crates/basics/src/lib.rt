@@ -1,11 +1,13 @@
 // Small things that know nothing of links: a conjunction, the first refusal of two, a place in a list, and numbers little-endian.
 // Assumes nothing.
+#![tactic(auto)]
+
 ghost use Rattle.std.specs.Prelude.{◌≡◌, ◌&&◌};
 ghost use Rattle.basics.specs.Choice.{first_of};
 ghost use Rattle.basics.specs.Number.{whole_four, whole_two};
 
 // Where in a list something was found.
-#[derive(Drop)]
+#[derive(Clone, Copy)]
 pub enum Found {
     At(usize),
     Nothing,

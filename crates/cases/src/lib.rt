@@ -1,20 +1,22 @@
 // The cases of a test program, a line of text for each: its numbers are handed out, and it is printed again with what came of it.
 // A line that starts with `#` says what the next ones are about, and has no numbers.
 // Assumes nothing.
+#![tactic(auto)]
+
 ghost use Rattle.std.specs.Prelude.{◌<◌, length};
 
 use basics::both;
 use libc::STDOUT_FILENO;
 
 // The first twelve numbers of a line, 0 where it has fewer, and the place behind the line.
-#[derive(Drop)]
+#[derive(Clone, Copy)]
 pub struct Case {
     pub numbers: [u64; 12],
     pub next: usize,
 }
 
 // The numbers read so far, how many are complete, and whether another has begun.
-#[derive(Drop)]
+#[derive(Clone, Copy)]
 struct Reading {
     numbers: [u64; 12],
     count: usize,

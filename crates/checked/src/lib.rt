@@ -1,5 +1,7 @@
 // The steps of a single end whose state is handed in from outside, by a host that may hand in anything: 10 where the state is out of shape, else the step.
 // Assumes nothing: every function takes all values. The step itself takes all states too, so it may be made before the state is looked at.
+#![tactic(auto)]
+
 ghost use Rattle.std.specs.Prelude.{◌≡◌};
 ghost use Rattle.checked.specs.Checked.{guarded, guarded_sent, checked_submit, checked_send, checked_arrive, checked_damage, checked_take, checked_timer, checked_refresh};
 

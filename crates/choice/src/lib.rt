@@ -1,5 +1,7 @@
 // Which packet of a channel's send queue goes next: its oldest eligible one.
 // Assumes nothing: every function takes all values.
+#![tactic(auto)]
+
 ghost use Rattle.std.specs.Prelude.{◌≡◌, []};
 ghost use Rattle.store.specs.Store.{held};
 ghost use Rattle.choice.specs.Choice.{credit_of, chosen};
@@ -11,7 +13,7 @@ use packets::{Category, Packet};
 use store::Packets;
 
 // Which categories the packets passed are of.
-#[derive(Drop)]
+#[derive(Clone, Copy)]
 pub struct Seen {
     pub posted: bool,
     pub non_posted: bool,

@@ -1,23 +1,25 @@
 // The counters of the link: header units, data units, sequence numbers and the retrain count. All wrap.
 // Each keeps its modulus and half range, which stand nowhere else in the code. Assumes nothing: every function takes all values.
+#![tactic(auto)]
+
 ghost use Rattle.std.specs.Prelude.{◌≡◌, ◌-◌};
 ghost use Rattle.counters.specs.Wrapped.{plus, minus, within, gate};
 ghost use Rattle.counters.specs.Counters.{header_range, header_half, headers, data_range, data_half, datas, seq_range, seq, next_of, before_of, after_of, order_of, ack_answer, retrain_range, retrains, counts, added, between, may_send, update_answer};
 
 // Header units: one for each packet.
-#[derive(Drop)]
+#[derive(Clone, Copy)]
 pub struct Header(pub u8);
 
 // Data units: one for each four words of payload.
-#[derive(Drop)]
+#[derive(Clone, Copy)]
 pub struct Data(pub u16);
 
 // Sequence numbers of packets on a line.
-#[derive(Drop)]
+#[derive(Clone, Copy)]
 pub struct Seq(pub u16);
 
 // How often the link was trained again.
-#[derive(Drop)]
+#[derive(Clone, Copy)]
 pub struct Retrain(pub u16);
 
 impl Header {
@@ -95,7 +97,7 @@ impl Data {
 }
 
 // Where a packet's number stands to the one that is to be received next.
-#[derive(Drop)]
+#[derive(Clone, Copy)]
 pub enum Order {
     Next,
     Duplicate,
@@ -187,7 +189,7 @@ impl Retrain {
 }
 
 // Header units and data units side by side: a limit, a count or what a packet needs. No sum takes one of each.
-#[derive(Drop)]
+#[derive(Clone, Copy)]
 pub struct Counts {
     pub h: Header,
     pub d: Data,

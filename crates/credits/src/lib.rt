@@ -1,5 +1,7 @@
 // Credits: what one category of one channel may still send, and the room that its receiver has for it.
 // Assumes nothing: every function takes all values.
+#![tactic(auto)]
+
 ghost use Rattle.std.specs.Prelude.{◌≡◌};
 ghost use Rattle.counters.specs.Counters.{update_answer};
 ghost use Rattle.credits.specs.Credits.{advertised, credit_for, suffices, spent, updated, room_of, free_of, room_answer, received, given_back, marked, unmarked};
@@ -20,7 +22,7 @@ pub fn advertised(header: u16, units: u16) -> Counts
 }
 
 // The sender's side: the limit comes from the other end, consumed counts what was sent as new.
-#[derive(Drop)]
+#[derive(Clone, Copy)]
 pub struct Credit {
     pub limit: Counts,
     pub consumed: Counts,
@@ -71,7 +73,7 @@ impl Credit {
 }
 
 // The receiver's side: the units that it made known, those that came in, and whether an update is marked.
-#[derive(Drop)]
+#[derive(Clone, Copy)]
 pub struct Room {
     pub allocated: Counts,
     pub received: Counts,

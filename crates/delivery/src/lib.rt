@@ -1,5 +1,7 @@
 // What a packet does at the receiving half of an end when it arrives, whole or damaged, and how it is handed out by Take.
 // Assumes nothing: every function takes all values.
+#![tactic(auto)]
+
 ghost use Rattle.std.specs.Prelude.{◌≡◌, ◌<◌};
 ghost use Rattle.packets.specs.Packets.{numbered, slot_of};
 ghost use Rattle.setup.specs.Setup.{channels, per_end};
@@ -15,7 +17,7 @@ use setup::CHANNELS;
 use store::Packets;
 
 // The half after it got a packet or gave one, with answer and detail.
-#[derive(Drop)]
+#[derive(Clone, Copy)]
 pub struct Got {
     pub receiver: Receiver,
     pub answer: u8,

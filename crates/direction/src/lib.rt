@@ -1,1 +1,2 @@
 // One direction of the link, in true numbers: laws alone, under specs/ and proofs/.
+#![tactic(auto)]

@@ -2,6 +2,8 @@
 // 1 starts one, 2 to 8 step it as its host does, 10 to 23 put something into its state.
 // Its expected output was worked out by hand from document 01.
 // Assumes nothing.
+#![tactic(auto)]
+
 use basics::Found;
 use cases::Case;
 use counters::{Counts, Data, Header, Seq};

@@ -1,5 +1,7 @@
 // One end of a link: its two halves under one setup, its start and its steps. The setup is as the end sees it: its own units first.
 // No step looks at the shape of the state: a caller that cannot be sure of it asks for answer 10 first. Assumes nothing: every function takes all values.
+#![tactic(auto)]
+
 ghost use Rattle.std.specs.Prelude.{◌≡◌};
 ghost use Rattle.ends.specs.Ends.{end_of, start_of, stepped, by_sender, by_receiver, channel_for, too_much, too_many, submit_answer, submit_of, heard, arrive_of, damage_of, take_at, timer_of, refresh_of};
 ghost use Rattle.ends.specs.Sends.{from_receiver, from_sender, send_of};
@@ -13,7 +15,7 @@ use receiver::Receiver;
 use sender::{New, Sender, Told};
 use setup::Setup;
 
-#[derive(Drop)]
+#[derive(Clone, Copy)]
 pub struct End {
     pub setup: Setup,
     pub sender: Sender,
@@ -21,14 +23,14 @@ pub struct End {
 }
 
 // The end that was started, or with answer 5 none: the end of the blank setup.
-#[derive(Drop)]
+#[derive(Clone, Copy)]
 pub struct Started {
     pub end: End,
     pub answer: u8,
 }
 
 // The end after a step. A refusal leaves it as it was, with detail 0.
-#[derive(Drop)]
+#[derive(Clone, Copy)]
 pub struct Stepped {
     pub end: End,
     pub answer: u8,
@@ -36,7 +38,7 @@ pub struct Stepped {
 }
 
 // The end after Send, with the frame for the line.
-#[derive(Drop)]
+#[derive(Clone, Copy)]
 pub struct Sent {
     pub end: End,
     pub frame: Front,

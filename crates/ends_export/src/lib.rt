@@ -1,5 +1,7 @@
 // The steps of one end in its host's memory, for a host in C or Rust to link: each is that of memory::hosts.
 // Assumes nothing: memory of another length is refused.
+#![tactic(auto)]
+
 ghost use Rattle.std.specs.Prelude.{◌≡◌, eqb};
 ghost use Rattle.ends.specs.Ends.{submit_of, arrive_of, damage_of, take_at, timer_of, refresh_of};
 ghost use Rattle.ends.specs.Sends.{send_of};

@@ -1,6 +1,8 @@
 // A test on values that are out of range, at their ends and past them: what packets, counters and frames answer. And the lines of a
 // listing, in buffers that are just too short, just long enough, and longer. Each line of its input is a case; the first number says what
 // is done. Its expected output was worked out by hand from document 01. Assumes nothing.
+#![tactic(auto)]
+
 use cases::Case;
 use counters::{Counts, Data, Header, Order, Retrain, Seq};
 use frames::{Frame, Message};

@@ -1,5 +1,7 @@
 // Frames: what goes over a line, and the range rule of answer 27.
 // Assumes nothing: every function takes all values.
+#![tactic(auto)]
+
 ghost use Rattle.std.specs.Prelude.{◌≡◌};
 ghost use Rattle.packets.specs.Packets.{numbered};
 ghost use Rattle.frames.specs.Frames.{number_in_range, packet_in_range, in_range, frame_answer, update_of, made_answer};
@@ -8,7 +10,7 @@ use counters::{Counts, Data, Header, Seq};
 use packets::{Category, Numbered, Packet};
 
 // Ack and Nak carry the number up to which all was received. An update carries both allocated counts.
-#[derive(Drop)]
+#[derive(Clone, Copy)]
 pub enum Message {
     Ack(Seq),
     Nak(Seq),
@@ -20,14 +22,14 @@ pub enum Message {
 }
 
 // A packet with its number, or a link message.
-#[derive(Drop)]
+#[derive(Clone, Copy)]
 pub enum Frame {
     Packet(Seq, Packet),
     Message(Message),
 }
 
 // A frame made from numbers, or a refusal.
-#[derive(Drop)]
+#[derive(Clone, Copy)]
 pub enum Made {
     Frame(Frame),
     OutOfRange,

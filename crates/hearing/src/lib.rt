@@ -1,5 +1,7 @@
 // What a link message does at the sending half of an end: Ack, Nak and update.
 // Assumes nothing: every function takes all values.
+#![tactic(auto)]
+
 ghost use Rattle.std.specs.Prelude.{◌≡◌};
 ghost use Rattle.hearing.specs.Hearing.{releases, moved, acknowledged, again, limited, answered, hears};
 

@@ -14,7 +14,7 @@ use setup::{CHANNELS, Setup};
 use store::Packets;
 
 // A queue after a packet was submitted, with the answer: 0, or why the queue is as it was.
-#[derive(Drop)]
+#[derive(Clone, Copy)]
 pub struct Queued {
     pub answer: u8,
     pub queue: Packets,
@@ -85,7 +85,7 @@ pub fn end_submit(e: &mut End, p: Packet) -> u8
 }
 
 // What Take asks for, as places of an end: of its channel's inbox and of its category's room. Where it is refused with 20, both are 0 and it asks for nothing.
-#[derive(Drop)]
+#[derive(Clone, Copy)]
 pub struct Asked {
     pub inbox: usize,
     pub room: usize,
@@ -93,7 +93,7 @@ pub struct Asked {
 }
 
 // An inbox and a room after a packet was asked for, with what is said: answer 0 and the packet's ident, or why both are as they were.
-#[derive(Drop)]
+#[derive(Clone, Copy)]
 pub struct Handed {
     pub said: Said,
     pub inbox: Packets,

@@ -2,6 +2,8 @@
 // Each copies the part that its step may change, takes the step on it by value, and puts back what came of it. A refusal leaves the end as it was.
 // No step looks at the shape of the state. An exported function takes nothing that holds an enum, as an end does, so these are for hosts in Rattle, and a frame is a `Frame`.
 // Assumes nothing: every function takes all values.
+#![tactic(auto)]
+
 ghost use Rattle.std.specs.Prelude.{◌≡◌};
 ghost use Rattle.ends.specs.Ends.{timer_of, refresh_of, damage_of, arrive_of};
 ghost use Rattle.ends.specs.Sends.{send_of};
@@ -16,45 +18,45 @@ use sender::Replay;
 pub mod elements;
 
 // Answer and detail of a step.
-#[derive(Drop)]
+#[derive(Clone, Copy)]
 pub struct Said {
     pub answer: u8,
     pub detail: u32,
 }
 
 // What Send gives: no frame where no frame applies.
-#[derive(Drop)]
+#[derive(Clone, Copy)]
 pub struct Outgoing {
     pub said: Said,
     pub frame: Front,
 }
 
 // What a step by value gives to its thin function: the answer first, then the part that it may change.
-#[derive(Drop)]
+#[derive(Clone, Copy)]
 pub struct Timed {
     pub answer: u8,
     pub replay: Replay,
 }
 
-#[derive(Drop)]
+#[derive(Clone, Copy)]
 pub struct Refreshed {
     pub answer: u8,
     pub receiver: Receiver,
 }
 
-#[derive(Drop)]
+#[derive(Clone, Copy)]
 pub struct Damaged {
     pub said: Said,
     pub reply: Reply,
 }
 
-#[derive(Drop)]
+#[derive(Clone, Copy)]
 pub struct Arrived {
     pub said: Said,
     pub end: End,
 }
 
-#[derive(Drop)]
+#[derive(Clone, Copy)]
 pub struct Sends {
     pub outgoing: Outgoing,
     pub end: End,

@@ -1,1 +1,2 @@
 // Shape lasts: a step of an end in shape leaves it in shape. Laws alone, under proofs/.
+#![tactic(auto)]

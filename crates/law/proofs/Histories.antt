@@ -122,9 +122,9 @@ module _ {near far : Setup} {up down : Past} {p : Pair} (v : Seen near far up do
 pub grown : {near far : Setup} {up down : Past} {p : Pair} (ts : List Step) → Seen near far up down p 0 → Grown near far up down (history p ts) (after p ts)
 unfolding history after accepted taken
 grown {up} {down} {p} [] v = record { up' = up; down' = down; up_grows = grows_none refl refl; down_grows = grows_none refl refl; seen = v }
-grown {p} (t ∷ ts) v =
+grown {near = near} {far = far} {up = up} {down = down} {p = p} (t ∷ ts) v =
     let a = grown_one v t in
-    let b = grown ts a.seen in
+    let b = grown {near = near} {far = far} {up = a.up'} {down = a.down'} {p = (step_of p t).pair} ts a.seen in
     let es = history (step_of p t).pair ts in
     record {
       up' = b.up';

@@ -1,1 +1,2 @@
 // Demand 3: the history of a pair and its theorems, under specs/ and proofs/.
+#![tactic(auto)]

@@ -1,5 +1,7 @@
 // One line of the link: the frames on it in the order in which they were sent, oldest first. Lines never reorder.
 // Assumes nothing: every function takes all values, also a length past the end.
+#![tactic(auto)]
+
 ghost use Rattle.std.specs.Prelude.{◌≡◌};
 ghost use Rattle.line.specs.Line.{empty, is_full, put, front_of, rest_of};
 
@@ -8,20 +10,20 @@ use frames::Frame;
 use packets::Packet;
 
 // A place on the line: an array holds structs and no enums.
-#[derive(Drop)]
+#[derive(Clone, Copy)]
 pub struct Slot {
     pub frame: Frame,
 }
 
 // The first `len` slots are on the line.
-#[derive(Drop)]
+#[derive(Clone, Copy)]
 pub struct Line {
     pub slots: [Slot; 16],
     pub len: usize,
 }
 
 // A frame, or none: the oldest on a line, or what a source of Send has for it.
-#[derive(Drop)]
+#[derive(Clone, Copy)]
 pub enum Front {
     Frame(Frame),
     Nothing,

@@ -1,6 +1,8 @@
 // The listing's text: a header line, a line for each step, two end lines, and the line of a bad script.
 // A line goes over the first bytes of a buffer lent, or not at all where the buffer is shorter.
 // Assumes nothing.
+#![tactic(auto)]
+
 ghost use Rattle.std.specs.Prelude.{◌≡◌, ◌+◌, ◌≤◌, ◌++◌, length};
 ghost use Rattle.listing.specs.Listing.{after, digits, end_line, header_line, placed, refused_line, step_line, written};
 

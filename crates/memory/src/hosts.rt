@@ -22,7 +22,7 @@ const HOSTED: usize = END + SETUP;
 
 // What Send says. A frame is two words; where there is none, both are 0. A host in C reads it: hence its layout.
 #[repr(C)]
-#[derive(Drop)]
+#[derive(Clone, Copy)]
 pub struct Sending {
     pub answer: u8,
     pub detail: u32,

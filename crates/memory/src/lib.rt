@@ -1,6 +1,8 @@
 // A pair in memory that its host lends as words, stepped there: no step copies a list, an end or a line. What the words mean
 // stands in words/specs/Memory. No step looks at the shape of the pair. A step that is refused leaves every word as it was.
 // Assumes nothing: `step` takes every memory.
+#![tactic(auto)]
+
 pub mod hosts;
 mod lines;
 mod lists;
@@ -37,14 +39,14 @@ const LINES_AT: usize = 948;
 
 // What a step says. A host in C reads it: hence its layout.
 #[repr(C)]
-#[derive(Drop)]
+#[derive(Clone, Copy)]
 pub struct Said {
     pub answer: u8,
     pub detail: u32,
 }
 
 // Where the frame comes from.
-#[derive(Drop)]
+#[derive(Clone, Copy)]
 pub enum Source {
     Nak,
     Ack,
@@ -55,7 +57,7 @@ pub enum Source {
 }
 
 // The two words of the frame, and the detail.
-#[derive(Drop)]
+#[derive(Clone, Copy)]
 pub struct Given {
     pub head: u64,
     pub rest: u64,

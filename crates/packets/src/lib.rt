@@ -1,12 +1,14 @@
 // Packets: kind, class, length and ident; what is refused of them and the units that they cost.
 // Assumes nothing: every function takes all values.
+#![tactic(auto)]
+
 ghost use Rattle.std.specs.Prelude.{◌≡◌};
 ghost use Rattle.packets.specs.Packets.{rule, rule_of, number_of, numbered, same, category_of, kind_answer, class_answer, length_answer, packet_answer, need_of};
 
 use counters::{Counts, Data, Header};
 
 // Each category of each channel has counters of its own.
-#[derive(Drop)]
+#[derive(Clone, Copy)]
 pub enum Category {
     Posted,
     NonPosted,
@@ -14,14 +16,14 @@ pub enum Category {
 }
 
 // A category that came as a number.
-#[derive(Drop)]
+#[derive(Clone, Copy)]
 pub enum Numbered {
     Category(Category),
     Nothing,
 }
 
 // The ident stands for the contents.
-#[derive(Drop)]
+#[derive(Clone, Copy)]
 pub struct Packet {
     pub kind: u8,
     pub class: u8,
@@ -30,7 +32,7 @@ pub struct Packet {
 }
 
 // What holds of a kind: its category, its least and greatest length in words, and whether it has payload.
-#[derive(Drop)]
+#[derive(Clone, Copy)]
 pub struct Rule {
     pub category: Category,
     pub least: u16,

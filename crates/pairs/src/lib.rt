@@ -1,5 +1,7 @@
 // Two ends and one line each way: the start and the eight steps. Line i leads to end i.
 // `act` does not look at the shape of the pair: `step` asks for it first. Assumes nothing: every function takes all values.
+#![tactic(auto)]
+
 ghost use Rattle.std.specs.Prelude.{◌≡◌, ◌≤◌, ◌<◌, get_or, length};
 ghost use Rattle.line.specs.Line.{on_line};
 ghost use Rattle.setup.specs.Setup.{slots, no_units};
@@ -16,21 +18,21 @@ use packets::Packet;
 use script::Step;
 use setup::{PER_END, SLOTS, Setup, Units};
 
-#[derive(Drop)]
+#[derive(Clone, Copy)]
 pub struct Pair {
     pub ends: [End; 2],
     pub lines: [Line; 2],
 }
 
 // The pair that was started, or with answer 5 none: the pair of the blank setup.
-#[derive(Drop)]
+#[derive(Clone, Copy)]
 pub struct Paired {
     pub pair: Pair,
     pub answer: u8,
 }
 
 // The pair after a step. A refusal leaves it as it was, with detail 0.
-#[derive(Drop)]
+#[derive(Clone, Copy)]
 pub struct Done {
     pub pair: Pair,
     pub answer: u8,

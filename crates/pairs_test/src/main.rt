@@ -2,6 +2,8 @@
 // number says what is done: 1 and 2 start a pair, 3 is a step, 4 and 5 are quiet rounds, 6 sends groups of messages, 7 is Timer with
 // other lines.
 // Its expected output was worked out by hand from document 01. Assumes nothing.
+#![tactic(auto)]
+
 use basics::both;
 use cases::Case;
 use counters::Seq;
@@ -14,7 +16,7 @@ use script::Step;
 use setup::{SLOTS, Setup, Units};
 
 // The pair, what the last step answered, what Take handed out, and how many steps were refused. `ident` is for the next packet.
-#[derive(Drop)]
+#[derive(Clone, Copy)]
 struct Run {
     pair: Pair,
     answer: u8,

@@ -29,13 +29,13 @@ put_as f g k x h j = by_bool (eqb j k) (λ t. rw t) (λ t. rw t (h j))
 
 raised_from : {lo start top : ℕ → Amount} {l : List Slot} → ((j : ℕ) → lo j ≡ start j) → Raised start top l → Raised lo top l
 raised_from h (raised_end f) = raised_end (λ j. h j ∙ f j)
-raised_from {lo} {start} h (raised_update channel c x a o) =
+raised_from {lo = lo} {start = start} h (raised_update channel c x a o) =
     let k = slot_of channel c in
     let low : Fits (lo k) x = rw (h k) a in
-    raised_update channel c x low (raised_from (put_as lo start k x h) o)
-raised_from h (raised_ack o) = raised_ack (raised_from h o)
-raised_from h (raised_nak o) = raised_nak (raised_from h o)
-raised_from h (raised_packet o) = raised_packet (raised_from h o)
+    raised_update channel c x low (raised_from {lo = put lo k x} {start = put start k x} (put_as lo start k x h) o)
+raised_from {lo = lo} h (raised_ack o) = raised_ack (raised_from {lo = lo} h o)
+raised_from {lo = lo} h (raised_nak o) = raised_nak (raised_from {lo = lo} h o)
+raised_from {lo = lo} h (raised_packet o) = raised_packet (raised_from {lo = lo} h o)
 
 pub raised-le : {lo top : ℕ → Amount} {l : List Slot} → Raised lo top l → (j : ℕ) → Fits (lo j) (top j)
 raised-le {lo} (raised_end f) j = rw (← f j) (fits_refl (lo j))

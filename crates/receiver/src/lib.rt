@@ -1,5 +1,7 @@
 // The receiving half of an end: the packets that wait to be taken, their room, and what it owes to the other end.
 // Assumes nothing: every function takes all values.
+#![tactic(auto)]
+
 ghost use Rattle.std.specs.Prelude.{◌≡◌, map, take};
 ghost use Rattle.setup.specs.Setup.{per_end};
 ghost use Rattle.receiver.specs.Receiver.{room_for, start_of, inbox_at, room_at, nak_of, ack_of, after_accepted, ack_unless_nak, after_duplicate, after_gap, cleared, first_marked, channel_in, category_in, update_frame, told, refreshed};
@@ -14,7 +16,7 @@ use setup::{CHANNELS, PER_END, Setup, Units};
 use store::Packets;
 
 // What is owed to the other end.
-#[derive(Drop)]
+#[derive(Clone, Copy)]
 pub enum Owed {
     Nothing,
     Ack,
@@ -22,7 +24,7 @@ pub enum Owed {
 }
 
 // The number to be received next, the nak-sent flag and what is owed.
-#[derive(Drop)]
+#[derive(Clone, Copy)]
 pub struct Reply {
     pub next_receive: Seq,
     pub nak_sent: bool,
@@ -30,7 +32,7 @@ pub struct Reply {
 }
 
 // `inboxes` are the receive buffers by channel, each in the order of arrival; `rooms` at 3 * channel + category.
-#[derive(Drop)]
+#[derive(Clone, Copy)]
 pub struct Receiver {
     pub inboxes: [Packets; CHANNELS],
     pub rooms: [Room; PER_END],

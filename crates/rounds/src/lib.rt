@@ -1,4 +1,6 @@
 // The quiet round of a pair, step by step. Assumes nothing: a pair out of shape refuses each step and stays as it was.
+#![tactic(auto)]
+
 ghost use Rattle.std.specs.Prelude.{◌≡◌};
 ghost use Rattle.rounds.specs.Rounds.{did, exchange, times, take_of, take_until, most_takes, takes_on, takes_at, opening, quiet_round, quiet_rounds};
 

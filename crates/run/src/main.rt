@@ -1,5 +1,7 @@
 // The program: reads a script from standard input and writes its listing to standard output.
 // What the lines say is promised by `runs` and `listing`; here bytes are moved. Assumes nothing.
+#![tactic(auto)]
+
 ghost use Rattle.std.specs.Prelude.{◌+◌, ◌≤◌, length};
 
 use libc::{STDIN_FILENO, STDOUT_FILENO};

@@ -1,5 +1,7 @@
 // A run of steps over a pair, with the counts of packets accepted and taken at each end.
 // Assumes nothing: every function takes all values.
+#![tactic(auto)]
+
 ghost use Rattle.std.specs.Prelude.{◌≡◌, ◌/◌, true, length};
 ghost use Rattle.words.specs.Memory.{pair_words, pair_in};
 ghost use Rattle.script.specs.Step.{step_of};
@@ -14,7 +16,7 @@ use script::Step;
 use setup::Setup;
 
 // By end: packets accepted by Submit there, packets taken there.
-#[derive(Drop)]
+#[derive(Clone, Copy)]
 pub struct Run {
     pub pair: Pair,
     pub accepted: [u32; 2],
@@ -22,7 +24,7 @@ pub struct Run {
 }
 
 // The run after a step, with the step's answer and detail.
-#[derive(Drop)]
+#[derive(Clone, Copy)]
 pub struct Advanced {
     pub run: Run,
     pub answer: u8,
@@ -141,7 +143,7 @@ fn run_asked(r: Run, l: &[u32], out: &mut [u32]) -> Run
 }
 
 // The counts of a run whose pair is kept elsewhere.
-#[derive(Drop)]
+#[derive(Clone, Copy)]
 pub struct Counted {
     pub accepted: [u32; 2],
     pub taken: [u32; 2],

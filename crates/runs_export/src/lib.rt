@@ -2,6 +2,8 @@
 // answer and detail of each step. The list lent is filled with the numbers of the script's steps, and these steps
 // alone are run.
 // Assumes nothing.
+#![tactic(auto)]
+
 ghost use Rattle.std.specs.Prelude.{◌≡◌, ◌*◌, ◌≤◌, length};
 ghost use Rattle.pairs.specs.Pairs.{end_at};
 ghost use Rattle.script.specs.Script.{list_after, most_steps, steps_in};
@@ -16,7 +18,7 @@ use setup::Setup;
 // What the run of a script gives: its steps, then, by end, packets accepted by Submit there, packets taken there and
 // the retrain count. A refused script has an answer and a place, and zeros.
 #[repr(C)]
-#[derive(Drop)]
+#[derive(Clone, Copy)]
 pub struct Ran {
     pub answer: u32,
     pub place: u32,

@@ -1,5 +1,7 @@
 // Scripts: steps, their records of 12 bytes, the trailer, and the reader and the writer of whole scripts.
 // Assumes nothing.
+#![tactic(auto)]
+
 ghost use Rattle.std.specs.Prelude.{◌≡◌, ◌||◌, true, ◌++◌, map, ◌*◌, ◌≤◌, length, drop};
 ghost use Rattle.basics.specs.Each.{first_not};
 ghost use Rattle.basics.specs.Parts.{cut, joined};
@@ -17,7 +19,7 @@ pub const FRAME: usize = setup::BYTES + 12;
 
 // A step is its six fields as numbers. `class` is the channel and `kind` the category where the step is
 // Take. `end` is the acting end.
-#[derive(Drop)]
+#[derive(Clone, Copy)]
 pub struct Step {
     pub step: u32,
     pub end: u32,
@@ -28,7 +30,7 @@ pub struct Step {
 }
 
 // The last 12 bytes: the setup's offset, the count of steps, and whether the mark is there.
-#[derive(Drop)]
+#[derive(Clone, Copy)]
 struct Trailer {
     offset: u32,
     count: u32,
@@ -37,7 +39,7 @@ struct Trailer {
 
 // What reading gives: 0 with the count of steps and the setup, or a refusal with its place, no count and
 // the blank setup.
-#[derive(Drop)]
+#[derive(Clone, Copy)]
 pub struct Read {
     pub answer: u8,
     pub place: usize,
@@ -46,7 +48,7 @@ pub struct Read {
 }
 
 // What writing gives: 0 with the script's length, or a refusal with its place and no length.
-#[derive(Drop)]
+#[derive(Clone, Copy)]
 pub struct Written {
     pub answer: u8,
     pub place: usize,

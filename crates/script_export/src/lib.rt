@@ -1,6 +1,8 @@
 // The reader and the writer of scripts, for a host in C or Rust: the answer number comes back, and the
 // list or the buffer is filled where it is 0. A setup goes in as its 104 bytes.
 // Assumes nothing.
+#![tactic(auto)]
+
 ghost use Rattle.std.specs.Prelude.{◌≡◌, length};
 ghost use Rattle.setup.specs.Bytes.{read_setup};
 ghost use Rattle.script.specs.Script.{buffer_after, list_after, read_script, write_script};

@@ -2,6 +2,8 @@
 // at a time, and tries lists and buffers that are one too short. Each line of its input is a case; the first number says what is done:
 // 1 is a script, 2 is a byte, 3 is a list, 4 writes.
 // Assumes nothing.
+#![tactic(auto)]
+
 use cases::Case;
 use libc::STDIN_FILENO;
 use script::Written;

@@ -1,5 +1,7 @@
 // The sending half of an end: what waits to be sent, its credits, the replay buffer and the running replay.
 // Assumes nothing: every function takes all values.
+#![tactic(auto)]
+
 ghost use Rattle.std.specs.Prelude.{◌≡◌, ◌<◌, map, length, drop};
 ghost use Rattle.packets.specs.Packets.{slot_of};
 ghost use Rattle.store.specs.Store.{held, of_category};
@@ -16,7 +18,7 @@ use setup::{CHANNELS, PER_END, Setup, Units};
 use store::Packets;
 
 // The place in the replay buffer of a running replay's next packet; how many starts are counted; how often the link was trained again.
-#[derive(Drop)]
+#[derive(Clone, Copy)]
 pub struct Replay {
     pub at: Found,
     pub count: u8,
@@ -24,7 +26,7 @@ pub struct Replay {
 }
 
 // `queues` by channel, each in the order of age; `credits` at 3 * channel + category. The packets of `buffer` have the numbers from acked + 1 on.
-#[derive(Drop)]
+#[derive(Clone, Copy)]
 pub struct Sender {
     pub queues: [Packets; CHANNELS],
     pub credits: [Credit; PER_END],
@@ -35,14 +37,14 @@ pub struct Sender {
 }
 
 // The half after it was told something, with the answer: 0, or why nothing changed.
-#[derive(Drop)]
+#[derive(Clone, Copy)]
 pub struct Told {
     pub sender: Sender,
     pub answer: u8,
 }
 
 // Where a new packet waits.
-#[derive(Drop)]
+#[derive(Clone, Copy)]
 pub enum New {
     At { channel: usize, place: usize },
     Nothing,

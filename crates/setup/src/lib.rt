@@ -1,6 +1,8 @@
 // The setup of a link: how many channels it has, the channel of each class, and the units of each end,
 // channel and category; its rule (answer 5), and its 104 bytes, read and written.
 // Assumes nothing.
+#![tactic(auto)]
+
 ghost use Rattle.std.specs.Prelude.{◌≡◌, ◌∷◌, map, ◌*◌, length};
 ghost use Rattle.basics.specs.Parts.{cut, joined};
 ghost use Rattle.setup.specs.Setup.{blank_setup, categories_fit, channel_of, channels_fit, classes_fit, in_range, slots, units_at, units_fit, within};
@@ -18,7 +20,7 @@ pub const SLOTS: usize = 6 * CHANNELS;
 pub const BYTES: usize = 8 + 4 * SLOTS;
 
 // The units of one category on one channel at one end.
-#[derive(Drop)]
+#[derive(Clone, Copy)]
 pub struct Units {
     pub header: u16,
     pub payload: u16,
@@ -26,7 +28,7 @@ pub struct Units {
 
 // `n` channels are in use; `classes` are the channels of classes 1 to 7. The units of an end, channel
 // and category stand at 3 * CHANNELS * end + 3 * channel + category.
-#[derive(Drop)]
+#[derive(Clone, Copy)]
 pub struct Setup {
     pub n: u8,
     pub classes: [u8; 7],
@@ -34,7 +36,7 @@ pub struct Setup {
 }
 
 // What reading a setup gives: an answer number, and the setup, or the blank one where it is refused.
-#[derive(Drop)]
+#[derive(Clone, Copy)]
 pub struct Found {
     pub answer: u8,
     pub setup: Setup,

@@ -1,5 +1,7 @@
 // Is the state of an end in shape? A step on a state that is out of shape answers 10.
 // One function for each rule of document 01. Assumes nothing: every function takes all values, also lengths past the end.
+#![tactic(auto)]
+
 ghost use Rattle.std.specs.Prelude.{◌≡◌, ◌+◌, ◌<◌, eqb, get_or};
 ghost use Rattle.basics.specs.Each.{each};
 ghost use Rattle.credits.specs.Credits.{none, credit_for, room_of};

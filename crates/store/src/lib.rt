@@ -1,5 +1,7 @@
 // A bounded list of packets in the order of their age, oldest first: a send queue, a receive buffer or a replay buffer.
 // Assumes nothing: every function takes all values, also a length past the end.
+#![tactic(auto)]
+
 ghost use Rattle.std.specs.Prelude.{◌≡◌, ◌≤◌, ◌+◌, length};
 ghost use Rattle.basics.specs.Choice.{if◌then◌else◌};
 ghost use Rattle.basics.specs.Lists.{find};
@@ -10,7 +12,7 @@ use basics::Found;
 use packets::{Category, Packet};
 
 // The first `len` items are held. Its largest use has 48: a receive buffer with 16 header units in each of three categories.
-#[derive(Drop)]
+#[derive(Clone, Copy)]
 pub struct Packets {
     pub items: [Packet; 48],
     pub len: usize,

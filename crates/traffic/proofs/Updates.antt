@@ -39,11 +39,12 @@ put_both f g k x h j = by_bool (eqb j k) (λ t. rw t (fits_refl x)) (λ t. rw t 
 module _ {n : ℕ} where
   pub updates_lower : {low lo hi : ℕ → Amount} {l : List Slot} → ((j : ℕ) → Fits (low j) (lo j)) → Updates n lo hi l → Updates n low hi l
   updates_lower h (updates_end f) = updates_end (λ j. fits_trans (h j) (f j))
-  updates_lower {low} {lo} h (updates_update channel c x u a b o) =
-      updates_update channel c x u (fits_trans (h (slot_of channel c)) a) b (updates_lower (put_both low lo (slot_of channel c) x h) o)
-  updates_lower h (updates_ack o) = updates_ack (updates_lower h o)
-  updates_lower h (updates_nak o) = updates_nak (updates_lower h o)
-  updates_lower h (updates_packet o) = updates_packet (updates_lower h o)
+  updates_lower {low = low} {lo = lo} h (updates_update channel c x u a b o) =
+      updates_update channel c x u (fits_trans (h (slot_of channel c)) a) b
+      (updates_lower {low = put low (slot_of channel c) x} {lo = put lo (slot_of channel c) x} (put_both low lo (slot_of channel c) x h) o)
+  updates_lower {low = low} h (updates_ack o) = updates_ack (updates_lower {low = low} h o)
+  updates_lower {low = low} h (updates_nak o) = updates_nak (updates_lower {low = low} h o)
+  updates_lower {low = low} h (updates_packet o) = updates_packet (updates_lower {low = low} h o)
 
   -- more is allocated
   pub updates_more : {lo hi top : ℕ → Amount} {l : List Slot} → ((j : ℕ) → Fits (hi j) (top j)) → Updates n lo hi l → Updates n lo top l

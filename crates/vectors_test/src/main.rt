@@ -1,6 +1,8 @@
 // Runs each script that an argument names and holds its listing, line by line, to the stored one that the next
 // argument names. Prints which scripts have the same listing, or the first line that differs.
 // Assumes nothing.
+#![tactic(auto)]
+
 use libc::STDOUT_FILENO;
 use listing::LONGEST;
 use pairs::Pair;
@@ -13,7 +15,7 @@ const NUMBERS: usize = 6 * MOST_STEPS;
 
 // How far a stored listing is as expected: the place of the next line, its number from 1, and
 // whether a line differed.
-#[derive(Drop)]
+#[derive(Clone, Copy)]
 struct Place {
     at: usize,
     line: u32,

@@ -1,5 +1,7 @@
 // Small structs as one number of 64 bits, a word, each field at a place of its own, for memory that is lent as words.
 // Assumes nothing: every word means something.
+#![tactic(auto)]
+
 ghost use Rattle.std.specs.Prelude.{◌≡◌, ◌<◌};
 ghost use Rattle.frames.specs.declared.Frame.TheVariants as Frame;
 ghost use Rattle.words.specs.Words.{packet_in, packet_word, counts_in, counts_word, credit_in, credit_word, room_in, room_word, seq_in, category_in, message_in, message_word, frame_in, head_word, rest_word};
@@ -142,7 +144,7 @@ pub fn message_word(m: Message) -> u64
 }
 
 // The two words of a frame.
-#[derive(Drop)]
+#[derive(Clone, Copy)]
 pub struct Pairing {
     pub head: u64,
     pub rest: u64,
