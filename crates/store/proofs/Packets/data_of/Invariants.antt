@@ -1,0 +1,16 @@
+-- `store::Packets::data_of` meets its contract. The loop's invariant: what was counted and what is left make the whole.
+-- Assumes nothing.
+use Prim.Native.Nat.{◌+◌, ◌-◌, ◌*◌, ◌≤◌}
+use mathlib.Core.Path.{◌≡◌}
+use lib.ListN.{drop}
+use Rattle.basics.specs.Lists.{total}
+use Rattle.packets.specs.Packets.{data_units}
+use Rattle.store.specs.Store.{held}
+use Rattle.store.proofs.Categories.{share}
+use Rattle.store.proofs.Packets.data_of.Given as goal
+
+abbrev pub invariant-loop-i : goal.invariant-loop-i
+invariant-loop-i l = (l.i ≤ l.n) × (l.m ≤ l.i * 65535) × (l.m + total (share data_units l.c) (drop l.i (held l.self)) ≡ total (share data_units l.c) (held l.self))
+
+abbrev pub decreases-loop-i : goal.decreases-loop-i
+decreases-loop-i l = l.n - l.i
