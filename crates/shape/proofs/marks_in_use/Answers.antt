@@ -1,0 +1,22 @@
+-- `shape::marks_in_use` meets its contract: the invariant: what was found holds of each slot passed.
+-- Assumes nothing.
+use native.Mathlib.Omega.{arith}
+use mathlib.Core.Path.{◌≡◌, refl}
+use Rattle.basics.specs.Each.{each}
+use Rattle.basics.proofs.Loops.{each_both}
+use Rattle.shape.specs.Shape.{mark_in_use, marks_in_use}
+use Rattle.shape.proofs.marks_in_use.Goals as goal
+
+pub loop-slot-init : goal.loop-slot-init
+unfolding each
+loop-slot-init c = (omega arith, refl)
+
+pub loop-slot-preserved : goal.loop-slot-preserved
+loop-slot-preserved c =
+    (omega arith, each_both c.both-fit.ensures c.loop-slot.slot _ c.loop-slot.invariant.1 c.mark_in_use.ensures)
+
+pub returns : goal.returns
+unfolding marks_in_use
+returns c =
+    let e : c.loop-slot.slot ≡ 12 = omega arith in
+    rw e at c.loop-slot.invariant.1
