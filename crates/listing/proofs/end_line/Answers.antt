@@ -15,10 +15,10 @@ slice_bounds-hand_out-end c =
 pub returns : goal.returns
 unfolding end_line
 returns c =
-    let to_end = field_grown 0 _ _ _ _ refl (letters "c ") c.args.end c.put_field-a.ensures.value (omega arith) in
-    let to-accepted = field_grown _ _ _ _ _ to_end (letters " c ") c.args.accepted c.put_field-b.ensures.value (omega arith) in
-    let to-taken = field_grown _ _ _ _ _ to-accepted (letters " c ") c.args.taken c.put_field-c.ensures.value (omega arith) in
-    let to-retrains = field_grown _ _ _ _ _ to-taken (letters " c ") c.args.retrains c.put_field-d.ensures.value (omega arith) in
+    let to_end = field_grown 0 _ _ _ _ refl (letters "end ") c.args.end c.put_field-a.ensures.value (omega arith) in
+    let to-accepted = field_grown _ _ _ _ _ to_end (letters " accepted ") c.args.accepted c.put_field-b.ensures.value (omega arith) in
+    let to-taken = field_grown _ _ _ _ _ to-accepted (letters " taken ") c.args.taken c.put_field-c.ensures.value (omega arith) in
+    let to-retrains = field_grown _ _ _ _ _ to-taken (letters " retrains ") c.args.retrains c.put_field-d.ensures.value (omega arith) in
     let all : take c.put_text-e.result c.put_text-e.new.w ≡ end_line c.args.end c.args.accepted c.args.taken c.args.retrains
     = grown _ _ _ _ _ to-retrains (letters "\n") c.put_text-e.ensures.value (omega arith) in
     rw all at c.hand_out.ensures

@@ -10,10 +10,10 @@ use Rattle.listing.proofs.put_field.Goals as goal
 
 pub returns : goal.returns
 returns c =
-    let room : c.args.at + length c.args.name.now ≤ length c.args.w.now = omega (arith, c.requires) in (
-      omega (arith, c.put_text-from.ensures.value.0, c.put_number.ensures.upper_bound),
-      (
+    let room : c.args.at + length c.args.name.now ≤ length c.args.w.now = omega (arith, c.requires) in record {
+      upper_bound = omega (arith, c.put_text-from.ensures.value.0, c.put_number.ensures.upper_bound);
+      value = (
         rw length-append (omega (arith, c.put_text-from.ensures.value.0, c.put_number.ensures.value.0)),
         c.put_number.ensures.value.1 ∙ rw (c.put_text-from.ensures.value.1, c.put_text-from.ensures.value.0) (placed-more c.args.at c.args.name.now c.args.w.now room (digits c.args.n)),
-      ),
-    )
+      );
+    }

@@ -22,4 +22,4 @@ loop-i-preserved c =
 pub returns : goal.returns
 returns c =
     let e : c.loop-i.i ≡ length c.args.text.now = omega arith in
-    (c.requires, (refl, c.loop-i.invariant.2 ∙ rw (e, take-length c.args.text.now)))
+    record { upper_bound = c.requires; value = (refl, c.loop-i.invariant.2 ∙ rw (e, take-length c.args.text.now)) }

@@ -2,11 +2,14 @@
 -- Assumes nothing.
 use native.Mathlib.Omega.{arith}
 use Prim.Native.Nat.{◌+◌, ◌-◌, ◌/◌, ◌%◌}
-use mathlib.Core.Path.{◌≡◌, refl, ◌∙◌}
+use mathlib.Core.Path.{◌≡◌, refl}
 use lib.ListN.{length, length-set}
 use Rattle.listing.proofs.Digits.{length_more, some_digits}
 use Rattle.listing.proofs.Placed.{spelt_start, spelt_more, spelt_all}
 use Rattle.listing.proofs.spell.Goals as goal
+
+pub overflow_sub-i : goal.overflow_sub-i
+overflow_sub-i c = omega (arith, some_digits c.args.n)
 
 pub loop-rest-init : goal.loop-rest-init
 loop-rest-init c =
@@ -25,12 +28,6 @@ pub returns : goal.returns
 returns c =
     spelt_all c.args.n c.loop-rest.rest c.loop-rest.i c.loop-rest.w c.loop-rest.invariant.0 c.loop-rest.invariant.3 c.loop-rest.invariant.1 c.loop-rest-test.false
 
-pub UNKNOWN-overflow-sub-i : goal.UNKNOWN-overflow-sub-i
-UNKNOWN-overflow-sub-i c = omega (arith, some_digits c.args.n)
-
-pub UNKNOWN-overflow-sub-i-2 : goal.UNKNOWN-overflow-sub-i-2
-UNKNOWN-overflow-sub-i-2 c =
+pub overflow_sub-i-in-loop-rest : goal.overflow_sub-i-in-loop-rest
+overflow_sub-i-in-loop-rest c =
     omega (arith, length_more c.loop-rest.rest c.loop-rest-test.true, some_digits (c.loop-rest.rest / 10))
-
-pub UNKNOWN-same-length : goal.UNKNOWN-same-length
-UNKNOWN-same-length c = length-set c.loop-rest.w c.loop-rest.i (48 + c.loop-rest.rest) ∙ c.loop-rest.invariant.2
