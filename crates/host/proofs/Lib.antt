@@ -1,11 +1,3 @@
-pub mod Parts
-pub mod Shapes
 pub mod Steps
-pub mod Thin
-pub mod Arrays
-pub mod Elem
-pub mod Rows
-pub mod Stored
-pub mod StoredTwo
 pub mod Submits
 pub mod Takes

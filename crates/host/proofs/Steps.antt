@@ -1,13 +1,10 @@
 -- A step on its part, put back, is the step of the whole end.
 -- Assumes nothing.
-use Prim.Native.Nat.{ℕ}
 use mathlib.Core.Path.{◌≡◌, refl}
 use mathlib.Core.Bool.{Bool, true, false}
 use lib.Dec.{eqb}
 use Rattle.basics.specs.Choice.{if◌then◌else◌}
 use Rattle.frames.specs.declared.Frame.{Frame}
-use Rattle.frames.specs.declared.Frame.TheVariants as Frame
-use Rattle.sender.specs.declared.Told.{Told}
 use Rattle.sender.specs.Sender as S
 use Rattle.sender.specs.Sender.{with_replay, begun, told}
 use Rattle.receiver.specs.Receiver.{with_reply}

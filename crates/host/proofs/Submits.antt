@@ -6,7 +6,7 @@ use mathlib.Core.Path.{◌≡◌, refl, sym, ◌∙◌, ap, subst}
 use native.Mathlib.Omega.{arith}
 use borrow.Author.Tests.{leb-true, leb-false, eqb-true, lt-ltb, le-ltb}
 use lib.Dec.{ltb, leb, eqb}
-use lib.ListN.{length, set, get_or, get_or-eq_default}
+use lib.ListN.{length, get_or-eq_default}
 use lib.Seq.{set-get_or, set_out}
 use Rattle.basics.specs.Choice.{if◌then◌else◌}
 use Rattle.basics.proofs.Branches.{by_test}

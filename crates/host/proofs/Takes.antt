@@ -3,11 +3,11 @@
 use Prim.Native.Nat.{ℕ, ◌<◌, ◌≤◌}
 use mathlib.Core.Bool.{Bool, true, false}
 use mathlib.Core.List.{List}
-use mathlib.Core.Path.{◌≡◌, refl, sym, ◌∙◌, ap}
+use mathlib.Core.Path.{◌≡◌, refl, ◌∙◌, ap}
 use native.Mathlib.Omega.{arith}
 use borrow.Author.Tests.{le-leb, lt-leb, leb-false}
 use lib.Dec.{leb}
-use lib.ListN.{set, get_or}
+use lib.ListN.{set}
 use lib.Seq.{set-get_or}
 use Rattle.basics.specs.Choice.{if◌then◌else◌}
 use Rattle.basics.specs.Lists.{find}
@@ -16,7 +16,6 @@ use Rattle.basics.specs.declared.Found.TheVariants.{At, Nothing}
 use Rattle.packets.specs.declared.Category.{Category}
 use Rattle.packets.specs.declared.Category.TheVariants.{Posted}
 use Rattle.packets.specs.declared.Numbered.{Numbered}
-use Rattle.packets.specs.declared.Numbered.TheVariants as Numbered
 use Rattle.packets.specs.Packets.{numbered, need_of, slot_of}
 use Rattle.packets.proofs.Numbers.{number_below}
 use Rattle.credits.specs.declared.Room.{Room}
@@ -30,10 +29,10 @@ use Rattle.delivery.specs.declared.Got.{Got}
 use Rattle.delivery.specs.Delivery as D
 use Rattle.delivery.specs.Delivery.{got, is_before, taken_at, taken_by, take_of}
 use Rattle.ends.specs.declared.End.{End}
-use Rattle.ends.specs.Ends.{end, by_receiver, take_at}
+use Rattle.ends.specs.Ends.{end, by_receiver}
 use Rattle.host.specs.declared.elements.Asked.{Asked}
 use Rattle.host.specs.declared.elements.Handed.{Handed}
-use Rattle.host.specs.Elements.{nowhere, asked_by, asked_of, keeps, handed_at, handed_of, handed_by, handed_out}
+use Rattle.host.specs.Elements.{nowhere, asked_by, asked_of, keeps, handed_at, handed_of, handed_out}
 use Rattle.host.specs.Host.{said_of}
 
 -- the end with this inbox, or this room, at place k

@@ -9,7 +9,6 @@ use Rattle.packets.specs.declared.Packet.{Packet}
 use Rattle.packets.specs.declared.Category.{Category}
 use Rattle.packets.specs.declared.Category.TheVariants.{Posted}
 use Rattle.packets.specs.declared.Numbered.{Numbered}
-use Rattle.packets.specs.declared.Numbered.TheVariants as Numbered
 use Rattle.packets.specs.Packets.{number_of, numbered, slot_of, category_of, packet_answer, data_units, need_of}
 use Rattle.store.specs.declared.Packets.{Packets}
 use Rattle.store.specs.Store.{empty, held, at, is_of, of_category, pushed, removed}

@@ -3,7 +3,6 @@
 use Rattle.std.specs.Prelude.{ℕ, eqb}
 use Rattle.basics.specs.Choice.{if◌then◌else◌}
 use Rattle.frames.specs.declared.Frame.{Frame}
-use Rattle.frames.specs.declared.Frame.TheVariants as Frame
 use Rattle.sender.specs.declared.Replay.{Replay}
 use Rattle.sender.specs.Sender.{begun}
 use Rattle.receiver.specs.declared.Reply.{Reply}

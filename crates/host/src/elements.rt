@@ -1,4 +1,4 @@
-// The steps that change an element of an array of an end. Covered functions decide, over the parts by value; the end itself is not copied.
+// The steps that change an element of an array of an end. Functions over the parts by value decide; the end itself is not copied.
 // Assumes nothing: every function takes all values.
 ghost use Rattle.std.specs.Prelude.{◌≡◌};
 ghost use Rattle.ends.specs.Ends.{submit_of, take_at};
