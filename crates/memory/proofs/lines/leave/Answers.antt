@@ -1,0 +1,24 @@
+-- `memory::lines::leave` meets its contract: the branches are the definition's tests.
+-- Assumes nothing.
+use Prim.Native.Nat.{◌*◌}
+use mathlib.Core.Path.{refl}
+use borrow.Author.Tests.{le-leb, lt-leb}
+use lib.ListN.{get_or}
+use Rattle.line.specs.Line.{rest_of}
+use Rattle.words.specs.Memory.{line_places, line_in}
+use Rattle.memory.proofs.LinesLaws.{rest-is}
+use Rattle.memory.proofs.lines.leave.Goals as goal
+
+pub returns-then-n-le-FRAMES : goal.returns-then-n-le-FRAMES
+returns-then-n-le-FRAMES c =
+    let both = rest-is c.args.l.now c.requires (get_or c.args.l.now (2 * line_places) 0) refl c.if-n-ge1.true c.if-n-le-FRAMES.true c.move_down.new.q c.move_down.ensures in
+    record { l_after = both.0; l_len = both.1 }
+
+pub returns-else-n-le-FRAMES : goal.returns-else-n-le-FRAMES
+unfolding rest_of line_in
+returns-else-n-le-FRAMES c =
+    record { l_after = simp (rest_of, line_in, le-leb _ _ c.if-n-ge1.true, lt-leb _ _ c.if-n-le-FRAMES.false); l_len = c.requires }
+
+pub returns-else-n-ge1 : goal.returns-else-n-ge1
+unfolding rest_of line_in
+returns-else-n-ge1 c = record { l_after = simp (rest_of, line_in, lt-leb _ _ c.if-n-ge1.false); l_len = c.requires }

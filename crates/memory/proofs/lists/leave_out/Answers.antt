@@ -1,0 +1,25 @@
+-- `memory::lists::leave_out` meets its contract: the branches are the definition's tests.
+-- Assumes nothing.
+use mathlib.Core.Path.{refl}
+use borrow.Author.Tests.{le-leb, lt-leb}
+use lib.ListN.{get_or}
+use Rattle.store.specs.Store.{without}
+use Rattle.words.specs.Memory.{places}
+use Rattle.memory.proofs.ListsLaws.{left_out}
+use Rattle.memory.proofs.lists.leave_out.Goals as goal
+
+pub returns-then-n-le-PLACES : goal.returns-then-n-le-PLACES
+returns-then-n-le-PLACES c =
+    let n = get_or c.args.q.now places 0 in
+    let both = left_out c.args.q.now c.requires.0 c.args.a c.args.b n refl c.requires.1 c.if-b-n.true c.if-n-le-PLACES.true c.move_down.new.q c.move_down.ensures in
+    record { q_after = both.0; q_len = both.1 }
+
+pub returns-else-n-le-PLACES : goal.returns-else-n-le-PLACES
+unfolding without
+returns-else-n-le-PLACES c =
+    record { q_after = simp (without, le-leb _ _ c.requires.1, le-leb _ _ c.if-b-n.true, lt-leb _ _ c.if-n-le-PLACES.false); q_len = c.requires.0 }
+
+pub returns-else-b-n : goal.returns-else-b-n
+unfolding without
+returns-else-b-n c =
+    record { q_after = simp (without, le-leb _ _ c.requires.1, lt-leb _ _ c.if-b-n.false); q_len = c.requires.0 }

@@ -1,0 +1,15 @@
+-- `setups::classes_in` meets its contract. The invariant: the places passed are read, and behind them stand the first ones.
+-- Assumes nothing.
+use Prim.Native.Nat.{◌-◌, ◌≤◌}
+use mathlib.Core.Path.{◌≡◌}
+use mathlib.Core.List.{map}
+use lib.ListN.{take}
+use Rattle.basics.proofs.Parts.{filled}
+use Rattle.memory.specs.Hosted.{class_in}
+use Rattle.memory.proofs.setups.classes_in.Given as goal
+
+abbrev pub invariant-loop-i : goal.invariant-loop-i
+invariant-loop-i l = (l.i ≤ 7) × (l.all ≡ filled l.i (map class_in (take l.i l.x)) l.initial.all)
+
+abbrev pub decreases-loop-i : goal.decreases-loop-i
+decreases-loop-i l = 7 - l.i

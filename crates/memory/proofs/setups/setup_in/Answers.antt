@@ -1,0 +1,8 @@
+-- `setups::setup_in` meets its contract: each field is read from its own part.
+-- Assumes nothing.
+use Rattle.memory.specs.Hosted.{setup_in}
+use Rattle.memory.proofs.setups.setup_in.Goals as goal
+
+pub returns : goal.returns
+unfolding setup_in
+returns c = rw (c.n_in-n.ensures, c.classes_in-classes.ensures, c.all_units-units.ensures)
