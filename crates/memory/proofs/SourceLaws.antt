@@ -80,10 +80,6 @@ sends_as e = go e.receiver.reply.owed (first_marked e.receiver) e.sender.replay.
     go Owed.Nothing Found.Nothing Found.Nothing (New.At channel place) = refl
     go Owed.Nothing Found.Nothing Found.Nothing New.Nothing = refl
 
--- a source that a test for no source let through
-pub some : (x : Source) → OneOf (0 ∷ 1 ∷ 2 ∷ 3 ∷ 4 ∷ []) (tag_of the_type x) → x ≢ Source.Nothing
-some x k e = miss (0 ∷ 1 ∷ 2 ∷ 3 ∷ 4 ∷ []) 5 tt (rw e at k)
-
 -- ---- the slot of an update, the channel of a new packet
 
 abbrev slot_from : Source → Found

@@ -2,7 +2,6 @@
 -- Assumes nothing.
 use native.Mathlib.Omega.{arith}
 use Rattle.words.specs.Memory.{end_words}
-use Rattle.memory.proofs.SourceLaws.{some}
 use Rattle.memory.proofs.PairLaws.{end_at_lem, lent_long, send-none, send_full, send_gives}
 use Rattle.memory.proofs.send_at.Goals as goal
 
@@ -13,7 +12,7 @@ returns-in-Nothing c =
 
 pub returns-then-is_full : goal.returns-then-is_full
 returns-then-is_full c =
-    let both = send_full c.args.links c.args.m.now c.requires.0 c.args.i c.requires.1 c.first_source-x.result c.first_source-x.ensures (some _ c.in-Nothing.keys2)
+    let both = send_full c.args.links c.args.m.now c.requires.0 c.args.i c.requires.1 c.first_source-x.result c.first_source-x.ensures c.in_default.not-Nothing
     _ c.is_full.ensures _ c.if-is_full.true c.bare-then-is_full.ensures in
     record { value = both.0; m_len = both.1.0; keeps = both.1.1 }
 
@@ -23,6 +22,6 @@ give-g-requires c =
 
 pub returns : goal.returns
 returns c =
-    let both = send_gives c.args.links c.args.m.now c.requires.0 c.args.i c.requires.1 c.first_source-x.result c.first_source-x.ensures (some _ c.in-Nothing.keys2)
+    let both = send_gives c.args.links c.args.m.now c.requires.0 c.args.i c.requires.1 c.first_source-x.result c.first_source-x.ensures c.in_default.not-Nothing
     _ c.is_full.ensures c.if-is_full.false c.give-g.result c.give-g.new.m (c.give-g.ensures.rest_value, (c.give-g.ensures.m_after, c.give-g.ensures.m_len)) c.put.new.l (c.put.ensures.l_after, c.put.ensures.l_len) in
     record { value = both.0; m_len = both.1.0; keeps = both.1.1 }

@@ -12,12 +12,12 @@ returns-then-t-eq1 c =
 pub returns-then-t-eq6 : goal.returns-then-t-eq6
 returns-then-t-eq6 c =
     let both = is_take_lem c.args.link c.args.m.now c.args.t c.take.new.m c.take.result c.if-t-eq1.false c.if-t-eq6.true
-    _ _ c.capped-channel.ensures.0 c.capped-category.ensures.0 (c.take.ensures.value c.args.link refl, c.take.ensures.1) in
+    _ _ c.capped-channel.ensures.0 c.capped-category.ensures.0 (c.take.ensures.value c.args.link refl, (c.take.ensures.m_len, c.take.ensures.keeps)) in
     record { value = both.0; m_len = both.1.0; keeps = both.1.1 }
 
 pub returns-then-t-eq7 : goal.returns-then-t-eq7
 returns-then-t-eq7 c =
-    let both = is-timer c.args.link c.args.m.now c.args.t c.timer.new.m _ c.if-t-eq1.false c.if-t-eq6.false c.if-t-eq7.true c.timer.result (c.timer.ensures.value c.args.link, c.timer.ensures.1) c.bare-then-t-eq7.ensures in
+    let both = is-timer c.args.link c.args.m.now c.args.t c.timer.new.m _ c.if-t-eq1.false c.if-t-eq6.false c.if-t-eq7.true c.timer.result (c.timer.ensures.value c.args.link, (c.timer.ensures.m_len, c.timer.ensures.keeps)) c.bare-then-t-eq7.ensures in
     record { value = both.0; m_len = both.1.0; keeps = both.1.1 }
 
 pub returns : goal.returns

@@ -3,7 +3,6 @@
 use native.Mathlib.Omega.{arith}
 use Rattle.words.specs.Memory.{end_words}
 use Rattle.words.proofs.Patched.{length_part}
-use Rattle.memory.proofs.SourceLaws.{some}
 use Rattle.memory.proofs.HostLaws.{sends_refused, sends_frame, sends_none}
 use Rattle.memory.proofs.hosts.end_send.Goals as goal
 
@@ -25,5 +24,5 @@ pub returns : goal.returns
 returns c =
     let both = sends_frame c.args.m.now c.if-m-ne-HOSTED.false c.first_source-x.result c.first_source-x.ensures c.give-g.new.m c.give-g.ensures.m_len
     c.give-g.result c.give-g.ensures.rest_value c.give-g.ensures.m_after c.frame_in.result c.frame_in.ensures c.frame_words-w.result c.frame_words-w.ensures.head_value
-    (some _ c.in-Nothing.keys2) in
+    c.in_default.not-Nothing in
     record { value = both.0; leaves = both.1 }

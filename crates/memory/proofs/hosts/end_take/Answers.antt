@@ -17,5 +17,5 @@ returns-then-m-ne-HOSTED c =
 pub returns : goal.returns
 returns c =
     let both = by_whole (λ (x : Said). x.answer) said_stepped (said 10 0) c.args.m.now c.if-m-ne-HOSTED.false (λ (e : End). take_at e c.args.channel c.args.category)
-    (link_in c.args.m.now) refl c.take.result c.take.new.m (c.take.ensures.value (link_in c.args.m.now) c.n_in-n.ensures, c.take.ensures.1) in
+    (link_in c.args.m.now) refl c.take.result c.take.new.m (c.take.ensures.value (link_in c.args.m.now) c.n_in-n.ensures, (c.take.ensures.m_len, c.take.ensures.keeps)) in
     record { value = both.0; leaves = both.1 }

@@ -15,5 +15,5 @@ returns-then-m-ne-HOSTED c =
 
 pub returns : goal.returns
 returns c =
-    let both = by_whole (λ (n : ℕ). n) (λ (x : Stepped). x.answer) 10 c.args.m.now c.if-m-ne-HOSTED.false timer_of (link_in c.args.m.now) refl c.timer.result c.timer.new.m (c.timer.ensures.value (link_in c.args.m.now), c.timer.ensures.1) in
+    let both = by_whole (λ (n : ℕ). n) (λ (x : Stepped). x.answer) 10 c.args.m.now c.if-m-ne-HOSTED.false timer_of (link_in c.args.m.now) refl c.timer.result c.timer.new.m (c.timer.ensures.value (link_in c.args.m.now), (c.timer.ensures.m_len, c.timer.ensures.keeps)) in
     record { value = both.0; leaves = both.1 }

@@ -8,29 +8,28 @@ use Rattle.store.specs.Store.{held, no_packet, is_of}
 use Rattle.words.specs.Memory.{packets_in}
 use Rattle.memory.proofs.ListsLaws.{item_is}
 use Rattle.memory.proofs.lists.oldest.Goals as goal
-use Rattle.memory.proofs.lists.oldest.Goals.{After-is_of}
-
--- the code's test of the packet at i is the definition's
-tested : (c : After-is_of)
-    → is_of c.args.c (get_or (packets_in c.args.q.now).items c.loop-i.i no_packet) ≡ c.is_of.result
-tested c =
-    ap (is_of c.args.c) (item_is c.args.q.now c.requires c.loop-i.i (omega (arith, c.size-n.ensures.upper_bound))) ∙ sym c.is_of.ensures
 
 pub loop-i-init : goal.loop-i-init
 loop-i-init c = (omega arith, refl)
 
 pub returns-then-is_of : goal.returns-then-is_of
 returns-then-is_of c =
+    -- the code's test of the packet at i is the definition's
+    let tested : is_of c.args.c (get_or (packets_in c.args.q.now).items c.loop-i.i no_packet) ≡ c.is_of.result =
+      ap (is_of c.args.c) (item_is c.args.q.now c.requires c.loop-i.i (omega (arith, c.size-n.ensures.upper_bound))) ∙ sym c.is_of.ensures in
     let q = packets_in c.args.q.now in
     sym (c.loop-i.invariant.1
-    ∙ find-here q.items q.len c.loop-i.i no_packet (omega (arith, c.size-n.ensures.value)) (is_of c.args.c) (tested c.before ∙ c.if-is_of.true))
+    ∙ find-here q.items q.len c.loop-i.i no_packet (omega (arith, c.size-n.ensures.value)) (is_of c.args.c) (tested ∙ c.if-is_of.true))
 
 pub loop-i-preserved : goal.loop-i-preserved
 loop-i-preserved c =
+    -- the code's test of the packet at i is the definition's
+    let tested : is_of c.args.c (get_or (packets_in c.args.q.now).items c.loop-i.i no_packet) ≡ c.is_of.result =
+      ap (is_of c.args.c) (item_is c.args.q.now c.requires c.loop-i.i (omega (arith, c.size-n.ensures.upper_bound))) ∙ sym c.is_of.ensures in
     let q = packets_in c.args.q.now in (
       omega arith,
       c.loop-i.invariant.1
-          ∙ find-next q.items q.len c.loop-i.i no_packet (omega (arith, c.size-n.ensures.value)) (is_of c.args.c) (tested c.before ∙ c.if-is_of.false),
+          ∙ find-next q.items q.len c.loop-i.i no_packet (omega (arith, c.size-n.ensures.value)) (is_of c.args.c) (tested ∙ c.if-is_of.false),
     )
 
 pub returns : goal.returns

@@ -16,7 +16,7 @@ loop-c-init c = (omega arith, refl)
 pub loop-c-preserved : goal.loop-c-preserved
 loop-c-preserved c =
     let wide : list_words * c.loop-c.c + list_words - list_words * c.loop-c.c ≡ list_words = omega arith in
-    (omega arith, part-read packets_in list_words _ _ _ _ c.loop-c.invariant.1 _ (rw wide c.loop-c.c c.packets_in.ensures) (omega arith))
+    (omega arith, part-read packets_in list_words _ _ _ _ c.loop-c.invariant.1 _ (rw wide at c.packets_in.ensures) (omega arith))
 
 pub returns : goal.returns
 returns c = parts_read packets_in list_words _ _ _ _ c.loop-c.invariant.1 channels (omega arith) refl

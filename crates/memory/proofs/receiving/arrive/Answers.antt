@@ -12,7 +12,7 @@ use Rattle.memory.proofs.receiving.arrive.Goals as goal
 pub returns-in-Next : goal.returns-in-Next
 returns-in-Next c =
     let s = both (by_order_lem (receiver_in c.args.r.now) c.args.channel c.args.number (packet_in c.args.w) _ _ Order.Next c.reply-x.ensures c.order.ensures c.in-Next.is) in
-    let rest = c.in_sequence.ensures.1 in record { value = (c.in_sequence.ensures.value.0 ∙ s.0, c.in_sequence.ensures.value.1 ∙ s.1); r_len = rest.0; keeps = rest.1 }
+    record { value = (c.in_sequence.ensures.value.0 ∙ s.0, c.in_sequence.ensures.value.1 ∙ s.1); r_len = c.in_sequence.ensures.r_len; keeps = c.in_sequence.ensures.keeps }
 
 pub returns-in-Duplicate : goal.returns-in-Duplicate
 returns-in-Duplicate c =

@@ -27,4 +27,4 @@ pub returns : goal.returns
 returns c =
     let s = both (by_category (receiver_in c.args.r.now) c.args.n c.args.channel c.args.category c.if-channel-n.false c.if-k-ge-CHANNELS.false (Numbered.Category _)
     (sym c.in-Category.is ∙ c.category_numbered.ensures)) in
-    let rest = c.take_of.ensures.1 in record { value = (c.take_of.ensures.value.0 ∙ s.0, c.take_of.ensures.value.1 ∙ s.1); r_len = rest.0; keeps = rest.1 }
+    record { value = (c.take_of.ensures.value.0 ∙ s.0, c.take_of.ensures.value.1 ∙ s.1); r_len = c.take_of.ensures.r_len; keeps = c.take_of.ensures.keeps }

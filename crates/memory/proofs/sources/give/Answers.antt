@@ -19,27 +19,27 @@ give_new-requires c =
 
 pub returns-in-Nak : goal.returns-in-Nak
 returns-in-Nak c =
-    let both = by_receiving c.args.m.now c.requires.0 c.give_nak.result c.args.x Source.Nak c.in-Nak.is c.give_nak.ensures.rest_value c.give_nak.new.r refl c.give_nak.ensures.1 in
+    let both = by_receiving c.args.m.now c.requires.0 c.give_nak.result c.args.x Source.Nak c.in-Nak.is c.give_nak.ensures.rest_value c.give_nak.new.r refl (c.give_nak.ensures.r_after, c.give_nak.ensures.r_len) in
     record { rest_value = both.0; m_after = both.1.0; m_len = both.1.1 }
 
 pub returns-in-Ack : goal.returns-in-Ack
 returns-in-Ack c =
-    let both = by_receiving c.args.m.now c.requires.0 c.give_ack.result c.args.x Source.Ack c.in-Ack.is c.give_ack.ensures.rest_value c.give_ack.new.r refl c.give_ack.ensures.1 in
+    let both = by_receiving c.args.m.now c.requires.0 c.give_ack.result c.args.x Source.Ack c.in-Ack.is c.give_ack.ensures.rest_value c.give_ack.new.r refl (c.give_ack.ensures.r_after, c.give_ack.ensures.r_len) in
     record { rest_value = both.0; m_after = both.1.0; m_len = both.1.1 }
 
 pub returns-in-Update : goal.returns-in-Update
 returns-in-Update c =
-    let both = by_receiving c.args.m.now c.requires.0 c.give_update.result c.args.x (Source.Update c.in-Update.slot) c.in-Update.is c.give_update.ensures.rest_value c.give_update.new.r refl c.give_update.ensures.1 in
+    let both = by_receiving c.args.m.now c.requires.0 c.give_update.result c.args.x (Source.Update c.in-Update.slot) c.in-Update.is c.give_update.ensures.rest_value c.give_update.new.r refl (c.give_update.ensures.r_after, c.give_update.ensures.r_len) in
     record { rest_value = both.0; m_after = both.1.0; m_len = both.1.1 }
 
 pub returns-in-Replay : goal.returns-in-Replay
 returns-in-Replay c =
-    let both = by_sending c.args.m.now c.requires.0 c.give_replay.result c.args.x (Source.Replay c.in-Replay.place) c.in-Replay.is c.give_replay.ensures.rest_value c.give_replay.new.s refl c.give_replay.ensures.1 in
+    let both = by_sending c.args.m.now c.requires.0 c.give_replay.result c.args.x (Source.Replay c.in-Replay.place) c.in-Replay.is c.give_replay.ensures.rest_value c.give_replay.new.s refl (c.give_replay.ensures.s_after, c.give_replay.ensures.s_len) in
     record { rest_value = both.0; m_after = both.1.0; m_len = both.1.1 }
 
 pub returns-in-New : goal.returns-in-New
 returns-in-New c =
-    let both = by_sending c.args.m.now c.requires.0 c.give_new.result c.args.x (Source.New c.in-New.channel c.in-New.place) c.in-New.is c.give_new.ensures.rest_value c.give_new.new.s refl c.give_new.ensures.1 in
+    let both = by_sending c.args.m.now c.requires.0 c.give_new.result c.args.x (Source.New c.in-New.channel c.in-New.place) c.in-New.is c.give_new.ensures.rest_value c.give_new.new.s refl (c.give_new.ensures.s_after, c.give_new.ensures.s_len) in
     record { rest_value = both.0; m_after = both.1.0; m_len = both.1.1 }
 
 pub returns-in-Nothing : goal.returns-in-Nothing
