@@ -1,4 +1,4 @@
-//! Links the static library that `rt staticlib runs_export` wrote, and links again where it has changed.
+//! Links the static library that `tools/library runs_export` wrote, and links again where it has changed.
 
 fn main() {
     let folder = concat!(env!("CARGO_MANIFEST_DIR"), "/../../target/staticlib");

@@ -1,4 +1,4 @@
-//! Says where libends_export.a is: in the folder that LINK_LIBRARY names, else where `rt staticlib ends_export` writes it.
+//! Says where libends_export.a is: in the folder that LINK_LIBRARY names, else where `tools/library ends_export` writes it.
 use std::env;
 use std::path::{Path, PathBuf};
 
@@ -11,7 +11,7 @@ fn main() {
     println!("cargo::rerun-if-changed={}", library.display());
     if !library.is_file() {
         println!("cargo::error=no {}", library.display());
-        println!("cargo::error=make it with `rt staticlib ends_export`, or name its folder in LINK_LIBRARY");
+        println!("cargo::error=make it with `tools/library ends_export`, or name its folder in LINK_LIBRARY");
     }
     println!("cargo::rustc-link-search=native={}", folder.display());
     println!("cargo::rustc-link-lib=static=ends_export");
