@@ -1,12 +1,15 @@
 // The cases of a test program, a line of text for each: its numbers are handed out, and it is printed again with what came of it.
-// A line that starts with `#` says what the next ones are about, and has no numbers.
+// A line that starts with `#` says what the next ones are about, and has no numbers. `files` reads them, and the files that arguments name.
 // Assumes nothing.
 #![tactic(auto)]
 
-ghost use Rattle.std.specs.Prelude.{◌<◌, length};
+mod files;
+
+ghost use Rattle.std.specs.Prelude.{◌<◌, length, IfOk};
 
 use basics::both;
-use libc::STDOUT_FILENO;
+pub use files::{MOST_BYTES, arg, read_full, read_path};
+use std::io;
 
 // The first twelve numbers of a line, 0 where it has fewer, and the place behind the line.
 #[derive(Clone, Copy)]
@@ -90,39 +93,38 @@ fn numbers_at(b: &[u8], at: usize) -> Case
     }
 }
 
-fn print_part(b: &[u8], from: usize, to: usize) {
+fn print_part(rt: &impl Print, b: &[u8], from: usize, to: usize) -> io::Result<()> {
     if from <= to {
         if to <= b.len() {
-            io::write_all(STDOUT_FILENO, &b[from..to]);
+            return rt.write_all(&b[from..to]);
         }
     }
+    Ok(())
 }
 
 // Reads the line at this place and prints it.
-pub fn read(b: &[u8], at: usize) -> Case
+pub fn read(rt: &impl Print, b: &[u8], at: usize) -> io::Result<Case>
     requires { at < length b.now }
-    ensures { at < result.next }
+    ensures { IfOk result (λ c. at < c.next) }
 {
     let c = numbers_at(b, at);
-    print_part(b, at, c.next - 1);
-    c
+    print_part(rt, b, at, c.next - 1)?;
+    Ok(c)
 }
 
 // What came of a case.
-pub fn tell(answer: u64, detail: u64) {
-    io::write_all(STDOUT_FILENO, b": ");
-    io::print_decimal(STDOUT_FILENO, answer);
-    tell_more(detail);
+pub fn tell(rt: &impl Print, answer: u64, detail: u64) -> io::Result<()> {
+    print!(rt; ": {answer}")?;
+    tell_more(rt, detail)
 }
 
 // One number more.
-pub fn tell_more(n: u64) {
-    io::write_all(STDOUT_FILENO, b" ");
-    io::print_decimal(STDOUT_FILENO, n);
+pub fn tell_more(rt: &impl Print, n: u64) -> io::Result<()> {
+    print!(rt; " {n}")
 }
 
-pub fn end_line() {
-    io::write_all(STDOUT_FILENO, b"\n");
+pub fn end_line(rt: &impl Print) -> io::Result<()> {
+    println!(rt)
 }
 
 impl Case {

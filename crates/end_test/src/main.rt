@@ -10,12 +10,12 @@ use counters::{Counts, Data, Header, Seq};
 use credits::{Credit, Room};
 use ends::{End, Stepped};
 use frames::{Frame, Message};
-use libc::STDIN_FILENO;
 use line::Front;
 use packets::{Category, Packet};
 use receiver::{Owed, Receiver, Reply};
 use sender::{Replay, Sender};
 use setup::{Setup, Units};
+use std::io;
 use store::Packets;
 
 // Each category of a channel in use has 2 header and 4 data units at either end. With two channels in use class 1 is on channel 1; the
@@ -49,10 +49,10 @@ fn started(n: u8) -> End {
 }
 
 // The answer and the detail of a step; the end after it.
-fn stepped(s: Stepped) -> End {
-    cases::tell(s.answer as u64, s.detail as u64);
+fn stepped(rt: &impl Print, s: Stepped) -> io::Result<End> {
+    cases::tell(rt, s.answer as u64, s.detail as u64)?;
     let end = s.end;
-    end
+    Ok(end)
 }
 
 fn counts(h: u8, d: u16) -> Counts {
@@ -103,35 +103,35 @@ fn carried(f: Frame) -> u64 {
 }
 
 // Send: its answer, its detail, and what the frame carries; the end after it.
-fn send(e: End) -> End {
+fn send(rt: &impl Print, e: End) -> io::Result<End> {
     let s = checked::send(e);
-    cases::tell(s.answer as u64, s.detail as u64);
+    cases::tell(rt, s.answer as u64, s.detail as u64)?;
     let front = s.frame;
     if let Front::Frame(f) = front {
-        cases::tell_more(carried(f));
+        cases::tell_more(rt, carried(f))?;
     }
     let end = s.end;
-    end
+    Ok(end)
 }
 
-fn step(e: End, c: Case) -> End {
+fn step(rt: &impl Print, e: End, c: Case) -> io::Result<End> {
     match c.number(0) {
-        2 => stepped(checked::submit(e, packet(c, 1, 7))),
-        3 => send(e),
-        4 => stepped(checked::arrive(e, frame(c))),
-        5 => stepped(checked::damage(e, frame(c))),
-        6 => stepped(checked::take(e, c.byte(1), c.byte(2))),
-        7 => stepped(checked::timer(e)),
-        _ => stepped(checked::refresh(e)),
+        2 => stepped(rt, checked::submit(e, packet(c, 1, 7))),
+        3 => send(rt, e),
+        4 => stepped(rt, checked::arrive(e, frame(c))),
+        5 => stepped(rt, checked::damage(e, frame(c))),
+        6 => stepped(rt, checked::take(e, c.byte(1), c.byte(2))),
+        7 => stepped(rt, checked::timer(e)),
+        _ => stepped(rt, checked::refresh(e)),
     }
 }
 
 // In shape or not, and what Timer answers: 10 where it is not; 0 where packets are out, else 23.
-fn shown(e: End) -> End {
+fn shown(rt: &impl Print, e: End) -> io::Result<End> {
     let inside = if shape::in_shape(e) { 1 } else { 0 };
     let stepped = checked::timer(e);
-    cases::tell(inside, stepped.answer as u64);
-    e
+    cases::tell(rt, inside, stepped.answer as u64)?;
+    Ok(e)
 }
 
 // So many of one packet.
@@ -263,28 +263,29 @@ fn with(old: End, c: Case) -> End {
     e
 }
 
-fn done(e: End, c: Case) -> End {
+fn done(rt: &impl Print, e: End, c: Case) -> io::Result<End> {
     match c.number(0) {
-        0 => e,
-        1 => shown(started(c.byte(1))),
-        2..=8 => step(e, c),
-        _ => shown(with(e, c)),
+        0 => Ok(e),
+        1 => shown(rt, started(c.byte(1))),
+        2..=8 => step(rt, e, c),
+        _ => shown(rt, with(e, c)),
     }
 }
 
-fn run(text: &[u8]) {
+fn run(rt: &impl Print, text: &[u8]) -> io::Result<()> {
     let mut e = started(1);
     let mut at = 0;
     while at < text.len() {
-        let c = cases::read(text, at);
-        e = done(e, c);
-        cases::end_line();
+        let c = cases::read(rt, text, at)?;
+        e = done(rt, e, c)?;
+        cases::end_line(rt)?;
         at = c.next;
     }
+    Ok(())
 }
 
-fn main() {
-    let mut text = io::large_buffer();
-    let n = io::read_full(STDIN_FILENO, &mut text);
-    run(&text[..n]);
+fn main(rt: HostRuntime) -> io::Result<()> {
+    let mut text = [0u8; cases::MOST_BYTES];
+    let n = cases::read_full(&mut rt.stdin(), &mut text);
+    run(&rt, &text[..n])
 }

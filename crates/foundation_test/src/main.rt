@@ -6,8 +6,8 @@
 use cases::Case;
 use counters::{Counts, Data, Header, Order, Retrain, Seq};
 use frames::{Frame, Message};
-use libc::{STDIN_FILENO, STDOUT_FILENO};
 use packets::{Category, Packet};
+use std::io;
 
 fn packet(kind: u8, class: u8, length: u16) -> Packet {
     Packet {
@@ -18,9 +18,9 @@ fn packet(kind: u8, class: u8, length: u16) -> Packet {
     }
 }
 
-fn cost(p: Packet) {
+fn cost(rt: &impl Print, p: Packet) -> io::Result<()> {
     let need = p.need();
-    cases::tell(need.h.0 as u64, need.d.0 as u64);
+    cases::tell(rt, need.h.0 as u64, need.d.0 as u64)
 }
 
 // 1 next, 2 duplicate, 3 out of order.
@@ -93,48 +93,50 @@ fn put(w: &mut [u8], c: Case) -> usize {
     }
 }
 
-fn show(n: usize, w: &[u8]) {
-    cases::tell_more(n as u64);
-    cases::end_line();
-    io::write_all(STDOUT_FILENO, w);
+fn show(rt: &impl Print, n: usize, w: &[u8]) -> io::Result<()> {
+    cases::tell_more(rt, n as u64)?;
+    cases::end_line(rt)?;
+    rt.write_all(w)
 }
 
 // How many bytes were written, and the whole buffer, of which so many bytes were lent.
-fn line(w: &mut [u8], room: usize, c: Case) {
+fn line(rt: &impl Print, w: &mut [u8], room: usize, c: Case) -> io::Result<()> {
     if room <= w.len() {
         let n = put(&mut w[0..room], c);
-        show(n, w);
+        return show(rt, n, w);
     }
+    Ok(())
 }
 
 // A buffer of dots, one byte longer than the longest line.
-fn dots(c: Case) {
+fn dots(rt: &impl Print, c: Case) -> io::Result<()> {
     let mut w = [46u8; 73];
-    line(&mut w, c.place(1), c);
+    line(rt, &mut w, c.place(1), c)
 }
 
-fn done(c: Case) {
+fn done(rt: &impl Print, c: Case) -> io::Result<()> {
     match c.number(0) {
-        0 => {}
-        2 => cost(packet(c.byte(1), 0, c.short(2))),
-        6 => cases::tell_more(round(c) as u64),
-        1..=9 => cases::tell_more(answer(c) as u64),
-        _ => dots(c),
+        0 => Ok(()),
+        2 => cost(rt, packet(c.byte(1), 0, c.short(2))),
+        6 => cases::tell_more(rt, round(c) as u64),
+        1..=9 => cases::tell_more(rt, answer(c) as u64),
+        _ => dots(rt, c),
     }
 }
 
-fn lines(text: &[u8]) {
+fn lines(rt: &impl Print, text: &[u8]) -> io::Result<()> {
     let mut at = 0;
     while at < text.len() {
-        let c = cases::read(text, at);
-        done(c);
-        cases::end_line();
+        let c = cases::read(rt, text, at)?;
+        done(rt, c)?;
+        cases::end_line(rt)?;
         at = c.next;
     }
+    Ok(())
 }
 
-fn main() {
-    let mut text = io::large_buffer();
-    let n = io::read_full(STDIN_FILENO, &mut text);
-    lines(&text[..n]);
+fn main(rt: HostRuntime) -> io::Result<()> {
+    let mut text = [0u8; cases::MOST_BYTES];
+    let n = cases::read_full(&mut rt.stdin(), &mut text);
+    lines(&rt, &text[..n])
 }

@@ -9,11 +9,11 @@ use cases::Case;
 use counters::Seq;
 use credits::Room;
 use frames::{Frame, Message};
-use libc::STDIN_FILENO;
 use line::{Line, Slot};
 use pairs::Pair;
 use script::Step;
 use setup::{SLOTS, Setup, Units};
+use std::io;
 
 // The pair, what the last step answered, what Take handed out, and how many steps were refused. `ident` is for the next packet.
 #[derive(Clone, Copy)]
@@ -156,20 +156,20 @@ fn timer_with(r: Run, c: Case) -> Run {
 }
 
 // The answer and the detail.
-fn told(r: Run) -> Run {
-    cases::tell(r.answer as u64, r.detail as u64);
-    r
+fn told(rt: &impl Print, r: Run) -> io::Result<Run> {
+    cases::tell(rt, r.answer as u64, r.detail as u64)?;
+    Ok(r)
 }
 
 // How many were taken, the ident of the last, how many steps were refused; at 0 the next number and the one acknowledged last.
-fn told_groups(r: Run) -> Run {
+fn told_groups(rt: &impl Print, r: Run) -> io::Result<Run> {
     let p = r.pair;
     let e = p.ends[0];
-    cases::tell(r.taken as u64, r.last as u64);
-    cases::tell_more(r.refused as u64);
-    cases::tell_more(e.sender.next.0 as u64);
-    cases::tell_more(e.sender.acked.0 as u64);
-    r
+    cases::tell(rt, r.taken as u64, r.last as u64)?;
+    cases::tell_more(rt, r.refused as u64)?;
+    cases::tell_more(rt, e.sender.next.0 as u64)?;
+    cases::tell_more(rt, e.sender.acked.0 as u64)?;
+    Ok(r)
 }
 
 // How many headers Take gave back: it started with one.
@@ -178,46 +178,47 @@ fn given_back(r: Room) -> u64 {
 }
 
 // The posted packets and the completions that were taken at 1, what still waits to be sent at 0, and what waits to be taken at 1.
-fn after_rounds(r: Run, p: Pair) -> Run {
+fn after_rounds(rt: &impl Print, r: Run, p: Pair) -> io::Result<Run> {
     let e0 = p.ends[0];
     let e1 = p.ends[1];
     let queues = e0.sender.queues;
     let inboxes = e1.receiver.inboxes;
     let rooms = e1.receiver.rooms;
-    cases::tell(given_back(rooms[0]), given_back(rooms[2]));
-    cases::tell_more(queues[0].len as u64);
-    cases::tell_more(inboxes[0].len as u64);
+    cases::tell(rt, given_back(rooms[0]), given_back(rooms[2]))?;
+    cases::tell_more(rt, queues[0].len as u64)?;
+    cases::tell_more(rt, inboxes[0].len as u64)?;
     let mut next = r;
     next.pair = p;
-    next
+    Ok(next)
 }
 
-fn done(r: Run, c: Case) -> Run {
+fn done(rt: &impl Print, r: Run, c: Case) -> io::Result<Run> {
     match c.number(0) {
-        0 => r,
-        1 => told(begun(link(c.short(1), c.short(2)))),
-        2 => told(begun(Setup::blank())),
-        3 => told(step(r, c.word(1), c.word(2), c.word(3), c.word(4))),
-        4 => after_rounds(r, rounds::quiet_round(r.pair)),
-        5 => after_rounds(r, rounds::quiet_rounds(r.pair, c.place(1))),
-        6 => told_groups(groups(r, c.place(1))),
-        _ => told(timer_with(r, c)),
+        0 => Ok(r),
+        1 => told(rt, begun(link(c.short(1), c.short(2)))),
+        2 => told(rt, begun(Setup::blank())),
+        3 => told(rt, step(r, c.word(1), c.word(2), c.word(3), c.word(4))),
+        4 => after_rounds(rt, r, rounds::quiet_round(r.pair)),
+        5 => after_rounds(rt, r, rounds::quiet_rounds(r.pair, c.place(1))),
+        6 => told_groups(rt, groups(r, c.place(1))),
+        _ => told(rt, timer_with(r, c)),
     }
 }
 
-fn lines(text: &[u8]) {
+fn lines(rt: &impl Print, text: &[u8]) -> io::Result<()> {
     let mut r = begun(Setup::blank());
     let mut at = 0;
     while at < text.len() {
-        let c = cases::read(text, at);
-        r = done(r, c);
-        cases::end_line();
+        let c = cases::read(rt, text, at)?;
+        r = done(rt, r, c)?;
+        cases::end_line(rt)?;
         at = c.next;
     }
+    Ok(())
 }
 
-fn main() {
-    let mut text = io::large_buffer();
-    let n = io::read_full(STDIN_FILENO, &mut text);
-    lines(&text[..n]);
+fn main(rt: HostRuntime) -> io::Result<()> {
+    let mut text = [0u8; cases::MOST_BYTES];
+    let n = cases::read_full(&mut rt.stdin(), &mut text);
+    lines(&rt, &text[..n])
 }

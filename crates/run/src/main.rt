@@ -2,15 +2,18 @@
 // What the lines say is promised by `runs` and `listing`; here bytes are moved. Assumes nothing.
 #![tactic(auto)]
 
-ghost use Rattle.std.specs.Prelude.{◌+◌, ◌≤◌, length};
+ghost use Rattle.std.specs.Prelude.{◌+◌, ◌≤◌, length, IfOk};
 
-use libc::{STDIN_FILENO, STDOUT_FILENO};
 use listing::LONGEST;
 use pairs::Pair;
 use runs::Run;
 use script::MOST_STEPS;
 use setup::Setup;
+use std::io;
+use std::io::Read;
 
+// The bytes that are read.
+const IN: usize = 65536;
 // The bytes that wait to be written.
 const OUT: usize = 8192;
 // The numbers of the longest script's steps, six for each.
@@ -18,32 +21,48 @@ const NUMBERS: usize = 6 * MOST_STEPS;
 // Their answers and details.
 const ANSWERS: usize = 2 * MOST_STEPS;
 
-// Writes the first n bytes.
-fn write(out: &[u8], n: usize) {
-    if n <= out.len() {
-        io::write_all(STDOUT_FILENO, &out[0..n]);
+// Reads until the buffer is full, the input ends or a read fails, and answers how many bytes are read.
+fn read_full(input: &mut impl Read, buf: &mut [u8]) -> usize
+    ensures { result ≤ length buf.new }
+{
+    let mut done = 0;
+    while done < buf.len() {
+        let n = input.read(&mut buf[done..]).unwrap_or(0);
+        if n == 0 {
+            break;
+        }
+        done += n;
     }
+    done
+}
+
+// Writes the first n bytes.
+fn write(rt: &impl Print, out: &[u8], n: usize) -> io::Result<()> {
+    if n <= out.len() {
+        return rt.write_all(&out[0..n]);
+    }
+    Ok(())
 }
 
 // Writes what waits, if a line might not fit behind it, and answers where the next line goes.
-fn made_room(out: &[u8], at: usize) -> usize
-    ensures { result + 72 ≤ 8192 }
+fn made_room(rt: &impl Print, out: &[u8], at: usize) -> io::Result<usize>
+    ensures { IfOk result (λ k. k + 72 ≤ 8192) }
 {
     if at <= OUT - LONGEST {
-        return at;
+        return Ok(at);
     }
-    write(out, at);
-    0
+    write(rt, out, at)?;
+    Ok(0)
 }
 
 // Writes a line for each step, from its answer and detail.
-fn write_steps(answers: &[u32]) {
+fn write_steps(rt: &impl Print, answers: &[u32]) -> io::Result<()> {
     let count = answers.len() / 2;
     let mut out = [0u8; OUT];
     let mut at = listing::header_line(&mut out);
     let mut i = 0;
     while i < count {
-        let k = made_room(&out, at);
+        let k = made_room(rt, &out, at)?;
         let n = listing::step_line(
             &mut out[k..],
             (i % 4294967296) as u32,
@@ -53,25 +72,25 @@ fn write_steps(answers: &[u32]) {
         at = k + n;
         i += 1;
     }
-    write(&out, at);
+    write(rt, &out, at)
 }
 
 fn wide(x: u16) -> u32 {
     x as u32
 }
 
-fn write_end(run: Run, i: usize) {
+fn write_end(rt: &impl Print, run: Run, i: usize) -> io::Result<()> {
     let mut line = [0u8; LONGEST];
     let k = i % 2;
     let p = run.pair;
     let e = p.ends[k];
     let retrains = wide(e.sender.replay.retrains.0);
     let n = listing::end_line(&mut line, k as u32, run.accepted[k], run.taken[k], retrains);
-    write(&line, n);
+    write(rt, &line, n)
 }
 
 // Runs the steps, six numbers for each, and writes the listing.
-fn list(link: Setup, l: &[u32])
+fn list(rt: &impl Print, link: Setup, l: &[u32]) -> io::Result<()>
     requires { length l.now ≤ 32706 }
 {
     let started = Pair::start(link);
@@ -79,9 +98,9 @@ fn list(link: Setup, l: &[u32])
     let used = 2 * (l.len() / 6);
     let mut answers = [0u32; ANSWERS];
     let run = runs::run_listing(Run::start(p), l, &mut answers[..used]);
-    write_steps(&answers[..used]);
-    write_end(run, 0);
-    write_end(run, 1);
+    write_steps(rt, &answers[..used])?;
+    write_end(rt, run, 0)?;
+    write_end(rt, run, 1)
 }
 
 // The numbers of so many steps; no script has more than NUMBERS.
@@ -94,9 +113,9 @@ fn numbers_of(count: usize) -> usize
     NUMBERS
 }
 
-fn main() {
-    let mut bytes = io::large_buffer();
-    let n = io::read_full(STDIN_FILENO, &mut bytes);
+fn main(rt: HostRuntime) -> io::Result<()> {
+    let mut bytes = [0u8; IN];
+    let n = read_full(&mut rt.stdin(), &mut bytes);
     let mut numbers = [0u32; NUMBERS];
     let got = script::read_script(&bytes[..n], &mut numbers);
     if got.answer != 0 {
@@ -106,9 +125,8 @@ fn main() {
             got.answer as u32,
             (got.place % 4294967296) as u32,
         );
-        write(&line, m);
-        return;
+        return write(&rt, &line, m);
     }
     let used = numbers_of(got.count);
-    list(got.setup, &numbers[..used]);
+    list(&rt, got.setup, &numbers[..used])
 }

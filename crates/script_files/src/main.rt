@@ -5,9 +5,11 @@
 #![tactic(auto)]
 
 use cases::Case;
-use libc::STDIN_FILENO;
 use script::Written;
 use setup::Setup;
+use std::env::Env;
+use std::io;
+use std::rt::Files;
 
 // How many of the first bytes are the same.
 fn same(a: &[u8], b: &[u8]) -> usize {
@@ -25,80 +27,77 @@ fn same(a: &[u8], b: &[u8]) -> usize {
 }
 
 // What the writer answers.
-fn tell(w: Written) {
-    cases::tell(w.answer as u64, w.place as u64);
+fn tell(rt: &impl Print, w: Written) -> io::Result<()> {
+    cases::tell(rt, w.answer as u64, w.place as u64)
 }
 
 // Writes steps, and tells how many bytes are written and how many are as they were.
-fn write_again(s: Setup, l: &[u32], count: usize, b: &[u8]) {
+fn write_again(rt: &impl Print, s: Setup, l: &[u32], count: usize, b: &[u8]) -> io::Result<()> {
     let mut out = [0u8; 65528];
     let w = script::write_script(s, l, count, &mut out);
-    tell(w);
-    cases::tell_more(w.length as u64);
-    cases::tell_more(same(b, &out) as u64);
+    tell(rt, w)?;
+    cases::tell_more(rt, w.length as u64)?;
+    cases::tell_more(rt, same(b, &out) as u64)
 }
 
 // Reads a script and, unless it is refused, writes its steps again.
-fn show(b: &[u8]) {
+fn show(rt: &impl Print, b: &[u8]) -> io::Result<()> {
     let mut list = [0u32; 32706];
     let r = script::read_script(b, &mut list);
-    cases::tell(r.answer as u64, r.place as u64);
+    cases::tell(rt, r.answer as u64, r.place as u64)?;
     if r.answer == 0 {
-        cases::tell_more(r.count as u64);
-        write_again(r.setup, &list, r.count, b);
+        cases::tell_more(rt, r.count as u64)?;
+        return write_again(rt, r.setup, &list, r.count, b);
     }
+    Ok(())
 }
 
 // Reads the file that an argument names.
-fn read_file(i: usize, buf: &mut [u8]) -> usize {
-    let mut path = io::buffer();
-    let length = os::arg(i, &mut path);
-    let fd = os::open_read(&path[..length]);
-    if fd < 0 {
-        os::fail(&path[..length]);
-        return 0;
-    }
-    let n = io::read_full(fd, buf);
-    libc::close(fd);
-    n
+fn read_file(rt: &(impl Env + Files + Eprint), i: usize, buf: &mut [u8]) -> usize {
+    let mut path = [0u8; 4096];
+    let length = cases::arg(rt, i, &mut path);
+    cases::read_path(rt, &path[..length], buf)
 }
 
-fn show_file(i: usize) {
-    let mut buf = io::large_buffer();
-    let n = read_file(i, &mut buf);
-    if n <= 65536 {
-        show(&buf[0..n]);
+fn show_file(rt: &(impl Print + Env + Files + Eprint), i: usize) -> io::Result<()> {
+    let mut buf = [0u8; cases::MOST_BYTES];
+    let n = read_file(rt, i, &mut buf);
+    if n <= cases::MOST_BYTES {
+        return show(rt, &buf[0..n]);
     }
+    Ok(())
 }
 
 // Reads Listing A into the first numbers of a list. It has 10 steps, 60 numbers and 236 bytes.
-fn read_into(b: &[u8; 236], room: usize) {
+fn read_into(rt: &impl Print, b: &[u8; 236], room: usize) -> io::Result<()> {
     let mut list = [0u32; 60];
     if room <= 60 {
         let r = script::read_script(b, &mut list[0..room]);
-        cases::tell(r.answer as u64, r.place as u64);
+        return cases::tell(rt, r.answer as u64, r.place as u64);
     }
+    Ok(())
 }
 
 // Reads Listing A with one byte changed.
-fn spoil(b: &[u8; 236], at: usize, value: u8) {
+fn spoil(rt: &impl Print, b: &[u8; 236], at: usize, value: u8) -> io::Result<()> {
     let mut c = *b;
     if at < 236 {
         c[at] = value;
     }
-    read_into(&c, 60);
+    read_into(rt, &c, 60)
 }
 
 // Writes so many steps of a list to the first bytes of a buffer.
-fn write(s: Setup, l: &[u32; 60], count: usize, room: usize) {
+fn write(rt: &impl Print, s: Setup, l: &[u32; 60], count: usize, room: usize) -> io::Result<()> {
     let mut out = [0u8; 236];
     if room <= 236 {
-        tell(script::write_script(s, l, count, &mut out[0..room]));
+        return tell(rt, script::write_script(s, l, count, &mut out[0..room]));
     }
+    Ok(())
 }
 
 // Writes the steps of Listing A with one number changed.
-fn spoil_number(b: &[u8; 236], c: Case) {
+fn spoil_number(rt: &impl Print, b: &[u8; 236], c: Case) -> io::Result<()> {
     let mut list = [0u32; 60];
     let r = script::read_script(b, &mut list);
     let at = c.place(4);
@@ -110,34 +109,35 @@ fn spoil_number(b: &[u8; 236], c: Case) {
     } else {
         r.setup
     };
-    write(link, &list, c.place(1), c.place(2));
+    write(rt, link, &list, c.place(1), c.place(2))
 }
 
-fn done(b: &[u8; 236], c: Case) {
+fn done(rt: &(impl Print + Env + Files + Eprint), b: &[u8; 236], c: Case) -> io::Result<()> {
     match c.number(0) {
-        0 => {}
-        1 => show_file(c.place(1)),
-        2 => spoil(b, c.place(1), c.byte(2)),
-        3 => read_into(b, c.place(1)),
-        _ => spoil_number(b, c),
+        0 => Ok(()),
+        1 => show_file(rt, c.place(1)),
+        2 => spoil(rt, b, c.place(1), c.byte(2)),
+        3 => read_into(rt, b, c.place(1)),
+        _ => spoil_number(rt, b, c),
     }
 }
 
-fn lines(b: &[u8; 236], text: &[u8]) {
+fn lines(rt: &(impl Print + Env + Files + Eprint), b: &[u8; 236], text: &[u8]) -> io::Result<()> {
     let mut at = 0;
     while at < text.len() {
-        let c = cases::read(text, at);
-        done(b, c);
-        cases::end_line();
+        let c = cases::read(rt, text, at)?;
+        done(rt, b, c)?;
+        cases::end_line(rt)?;
         at = c.next;
     }
+    Ok(())
 }
 
 // Listing A is argument 16.
-fn main() {
+fn main(rt: HostRuntime) -> io::Result<()> {
     let mut b = [0u8; 236];
-    read_file(16, &mut b);
-    let mut text = io::large_buffer();
-    let n = io::read_full(STDIN_FILENO, &mut text);
-    lines(&b, &text[..n]);
+    read_file(&rt, 16, &mut b);
+    let mut text = [0u8; cases::MOST_BYTES];
+    let n = cases::read_full(&mut rt.stdin(), &mut text);
+    lines(&rt, &b, &text[..n])
 }

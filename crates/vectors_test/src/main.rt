@@ -3,12 +3,14 @@
 // Assumes nothing.
 #![tactic(auto)]
 
-use libc::STDOUT_FILENO;
 use listing::LONGEST;
 use pairs::Pair;
 use runs::Run;
 use script::MOST_STEPS;
 use setup::Setup;
+use std::env::{Env, FillError};
+use std::io;
+use std::rt::Files;
 
 // The numbers of the longest script's steps, six for each.
 const NUMBERS: usize = 6 * MOST_STEPS;
@@ -22,12 +24,12 @@ struct Place {
     differs: bool,
 }
 
-fn print(text: &[u8]) {
-    io::write_all(STDOUT_FILENO, text);
+fn print(rt: &impl Print, text: &[u8]) -> io::Result<()> {
+    rt.write_all(text)
 }
 
-fn print_number(n: u32) {
-    io::print_decimal(STDOUT_FILENO, n as u64);
+fn print_number(rt: &impl Print, n: u32) -> io::Result<()> {
+    print!(rt; "{n}")
 }
 
 // Whether the bytes begin with this line.
@@ -169,69 +171,78 @@ fn behind_script(script: &[u8], stored: &[u8]) -> Place {
 }
 
 // Prints what came of a script, and answers how many differ.
-fn reported(p: Place) -> u32 {
+fn reported(rt: &impl Print, p: Place) -> io::Result<u32> {
     if !p.differs {
-        print(b" same\n");
-        return 0;
+        print(rt, b" same\n")?;
+        return Ok(0);
     }
-    print(b" differs at line ");
-    print_number(p.line);
-    print(b"\n");
-    1
+    print(rt, b" differs at line ")?;
+    print_number(rt, p.line)?;
+    print(rt, b"\n")?;
+    Ok(1)
+}
+
+// How many arguments there are, the program's own name among them.
+fn arg_count(rt: &impl Env) -> usize {
+    let mut buf = [0u8; 1];
+    for i in 0..usize::MAX {
+        if let Err(FillError::NotPresent) = rt.arg(i, &mut buf) {
+            return i;
+        }
+    }
+    usize::MAX
 }
 
 // Reads the file that an argument names. Nothing is read of one that cannot be opened.
-fn read_file(i: usize, buf: &mut [u8]) -> usize {
-    let mut path = io::buffer();
-    let length = os::arg(i, &mut path);
-    let fd = os::open_read(&path[..length]);
-    if fd < 0 {
-        os::fail(&path[..length]);
-        return 0;
-    }
-    let n = io::read_full(fd, buf);
-    libc::close(fd);
-    n
+fn read_file(rt: &(impl Env + Files + Eprint), i: usize, buf: &mut [u8]) -> usize {
+    let mut path = [0u8; 4096];
+    let length = cases::arg(rt, i, &mut path);
+    cases::read_path(rt, &path[..length], buf)
 }
 
 // Prints an argument.
-fn print_path(i: usize) {
-    let mut path = io::buffer();
-    let length = os::arg(i, &mut path);
-    print(&path[..length]);
+fn print_path(rt: &(impl Env + Print), i: usize) -> io::Result<()> {
+    let mut path = [0u8; 4096];
+    let length = cases::arg(rt, i, &mut path);
+    print(rt, &path[..length])
 }
 
 // Holds the first n bytes, a script, to the listing that argument i names.
-fn compared(script: &[u8], n: usize, i: usize) -> u32 {
-    let mut stored = io::large_buffer();
-    let m = read_file(i, &mut stored);
+fn compared(
+    rt: &(impl Env + Files + Print + Eprint),
+    script: &[u8],
+    n: usize,
+    i: usize,
+) -> io::Result<u32> {
+    let mut stored = [0u8; cases::MOST_BYTES];
+    let m = read_file(rt, i, &mut stored);
     if n <= script.len() {
-        if m <= 65536 {
-            return reported(behind_script(&script[0..n], &stored[0..m]));
+        if m <= cases::MOST_BYTES {
+            return reported(rt, behind_script(&script[0..n], &stored[0..m]));
         }
     }
-    1
+    Ok(1)
 }
 
 // Reads the script that argument i names, and holds it to the listing that argument j names.
-fn compared_files(i: usize, j: usize) -> u32 {
-    print_path(i);
-    let mut script = io::large_buffer();
-    let n = read_file(i, &mut script);
-    compared(&script, n, j)
+fn compared_files(rt: &(impl Env + Files + Print + Eprint), i: usize, j: usize) -> io::Result<u32> {
+    print_path(rt, i)?;
+    let mut script = [0u8; cases::MOST_BYTES];
+    let n = read_file(rt, i, &mut script);
+    compared(rt, &script, n, j)
 }
 
-fn main() {
-    let scripts = os::arg_count() / 2;
+fn main(rt: HostRuntime) -> io::Result<()> {
+    let scripts = arg_count(&rt) / 2;
     let mut differ = 0u32;
     let mut k = 0;
     while k < scripts {
-        let one = compared_files(2 * k + 1, 2 * k + 2);
+        let one = compared_files(&rt, 2 * k + 1, 2 * k + 2)?;
         differ = std::num::wrapping_add_u32(differ, one);
         k += 1;
     }
-    io::print_decimal(STDOUT_FILENO, scripts as u64);
-    print(b" scripts, ");
-    print_number(differ);
-    print(b" differ\n");
+    print!(rt; "{scripts}")?;
+    print(&rt, b" scripts, ")?;
+    print_number(&rt, differ)?;
+    print(&rt, b" differ\n")
 }
