@@ -1,12 +1,7 @@
 -- `runs_export::ran_after` meets its contract: the run's own promise on the front of the list.
 -- Assumes nothing.
-use Rattle.std.proofs.Common.{◌*◌, sym, arith, length-take-le}
 use Rattle.runs_export.proofs.Lent.{steps_lent}
 use Rattle.runs_export.proofs.ran_after.Goals as goal
-
-pub slice_bounds-run_listing-end : goal.slice_bounds-run_listing-end
-slice_bounds-run_listing-end c =
-    sym (length-take-le (6 * c.args.count) c.args.l.now (omega arith))
 
 pub returns : goal.returns
 returns c =

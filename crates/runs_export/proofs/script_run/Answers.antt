@@ -12,7 +12,7 @@ returns-then-got-ne0 c =
     (simp (ran_of, c.refused.ensures, ← c.read_script-got.ensures.0, bad), c.read_script-got.ensures.1, simp (out_after, ← c.read_script-got.ensures.0, bad))
 
 pub ran_after-requires : goal.ran_after-requires
-ran_after-requires c κs =
+ran_after-requires c =
     let read = list_fits c.args.b.now c.args.l.now _ c.read_script-got.ensures.0 c.if-got-ne0.false in
     (read.0, omega arith)
 

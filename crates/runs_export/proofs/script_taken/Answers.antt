@@ -11,7 +11,7 @@ returns-then-got-ne0 c =
     (simp (taken_in, ← c.read_script-got.ensures.0, ne_eqb _ _ c.if-got-ne0.true), c.read_script-got.ensures.1)
 
 pub taken_after-requires : goal.taken_after-requires
-taken_after-requires c κs =
+taken_after-requires c =
     let read = list_fits c.args.b.now c.args.l.now _ c.read_script-got.ensures.0 c.if-got-ne0.false in
     omega arith
 

@@ -1,13 +1,8 @@
 -- `runs_export::taken_after` meets its contract: the run's own promise on the front of the list.
 -- Assumes nothing.
-use Rattle.std.proofs.Common.{◌*◌, sym, arith, length-take-le}
 use Rattle.runs_export.specs.Taken.{taken_after}
 use Rattle.runs_export.proofs.Lent.{steps_lent}
 use Rattle.runs_export.proofs.taken_after.Goals as goal
-
-pub slice_bounds-run_steps-end : goal.slice_bounds-run_steps-end
-slice_bounds-run_steps-end c =
-    sym (length-take-le (6 * c.args.count) c.args.l.now (omega arith))
 
 pub returns : goal.returns
 unfolding taken_after
