@@ -9,7 +9,6 @@ use Rattle.counters.specs.declared.Seq.{Seq}
 use Rattle.counters.specs.declared.Retrain.{Retrain}
 use Rattle.counters.specs.declared.Counts.{Counts}
 use Rattle.counters.specs.declared.Order.{Order}
-use Rattle.counters.specs.declared.Order.TheVariants as Order
 
 -- ---- header units wrap at 256
 

@@ -1,24 +1,20 @@
 -- The ways through an arrival in sequence and through Take, over plain values: each way's answer is the definition's.
 -- Assumes nothing.
 use Prim.Native.Nat.{ℕ, ◌≤◌, ◌<◌}
-use mathlib.Core.Path.{◌≡◌, refl, sym, ◌∙◌}
+use mathlib.Core.Path.{◌≡◌}
 use mathlib.Core.Bool.{Bool, true, false}
-use lib.Dec.{leb}
 use borrow.Author.Tests.{le-leb, lt-leb}
-use Rattle.basics.specs.Choice.{if◌then◌else◌}
 use Rattle.basics.specs.Lists.{find}
 use Rattle.basics.specs.declared.Found.{Found}
 use Rattle.basics.specs.declared.Found.TheVariants.{At, Nothing}
 use Rattle.packets.specs.declared.Category.{Category}
 use Rattle.packets.specs.declared.Category.TheVariants.{Posted}
 use Rattle.packets.specs.declared.Numbered.{Numbered}
-use Rattle.packets.specs.declared.Numbered.TheVariants as Numbered
 use Rattle.packets.specs.Packets.{numbered}
 use Rattle.store.specs.Store.{held, at, is_of}
 use Rattle.setup.specs.Setup.{channels}
 use Rattle.receiver.specs.declared.Receiver.{Receiver}
 use Rattle.receiver.specs.Receiver.{inbox_at}
-use Rattle.delivery.specs.declared.Got.{Got}
 use Rattle.delivery.specs.Delivery.{got, handed_out, is_before, taken_at, taken, taken_by, take_of}
 
 -- Take by category, at what was found

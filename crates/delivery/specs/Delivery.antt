@@ -1,20 +1,18 @@
 -- What a packet does at the receiving half when it arrives whole or damaged, and Take.
 -- Assumes nothing.
-use Rattle.std.specs.Prelude.{ℕ, ◌+◌, ◌*◌, Bool, true, false, ◌||◌, not, leb, ltb, eqb, set}
+use Rattle.std.specs.Prelude.{ℕ, Bool, false, not, leb, ltb, eqb, set}
 use Rattle.basics.specs.Choice.{if◌then◌else◌}
 use Rattle.basics.specs.Lists.{find}
 use Rattle.basics.specs.declared.Found.{Found}
 use Rattle.basics.specs.declared.Found.TheVariants.{At, Nothing}
 use Rattle.counters.specs.declared.Seq.{Seq}
 use Rattle.counters.specs.declared.Order.{Order}
-use Rattle.counters.specs.declared.Order.TheVariants as Order
 use Rattle.counters.specs.Counters.{order_of}
 use Rattle.credits.specs.Credits.{room_answer, received, given_back}
 use Rattle.packets.specs.declared.Packet.{Packet}
 use Rattle.packets.specs.declared.Category.{Category}
 use Rattle.packets.specs.declared.Category.TheVariants.{Posted}
 use Rattle.packets.specs.declared.Numbered.{Numbered}
-use Rattle.packets.specs.declared.Numbered.TheVariants as Numbered
 use Rattle.packets.specs.Packets.{numbered, category_of, need_of, slot_of}
 use Rattle.store.specs.Store.{held, at, pushed, removed, is_of}
 use Rattle.setup.specs.Setup.{channels}

@@ -1,6 +1,6 @@
 -- The receiving half puts a link message on the line back, or marks its updates: the direction is kept. Frames of the other direction pass.
 -- Assumes nothing.
-use Prim.Native.Nat.{ℕ, ◌+◌, ◌*◌, ◌%◌, ◌≤◌, ◌<◌}
+use Prim.Native.Nat.{ℕ, ◌*◌, ◌%◌, ◌≤◌, ◌<◌}
 use mathlib.Core.Path.{◌≡◌, refl, ap, ◌∙◌}
 use mathlib.Core.Logic.{by_cases}
 use mathlib.Core.Bool.{true}
@@ -16,7 +16,6 @@ use Rattle.packets.specs.declared.Packet.{Packet}
 use Rattle.credits.specs.Credits.{unmarked}
 use Rattle.frames.specs.declared.Frame.TheVariants as Frame
 use Rattle.frames.specs.declared.Message.{Message}
-use Rattle.frames.specs.declared.Message.TheVariants as Message
 use Rattle.line.specs.declared.Slot.{Slot}
 use Rattle.line.specs.Line.{slot}
 use Rattle.setup.specs.declared.Setup.{Setup}

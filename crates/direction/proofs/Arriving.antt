@@ -15,8 +15,7 @@ use Rattle.basics.specs.Choice.{if◌then◌else◌}
 use Rattle.basics.proofs.All.{all-at}
 use Rattle.counters.specs.declared.Seq.{Seq}
 use Rattle.counters.specs.declared.Order.{Order}
-use Rattle.counters.specs.declared.Order.TheVariants as Order
-use Rattle.counters.specs.Wrapped.{plus, within}
+use Rattle.counters.specs.Wrapped.{plus}
 use Rattle.counters.specs.Counters.{seq, order_of}
 use Rattle.counters.proofs.Windows.{duplicate}
 use Rattle.packets.specs.declared.Packet.{Packet}

@@ -1,7 +1,7 @@
 -- Where the true amounts of a direction lie: taken, arrived, sent, limit, allocated, each at most the next, and all within the setup's units.
 -- And how many packets the replay buffer holds at most.
 -- Assumes nothing.
-use Prim.Native.Nat.{ℕ, ◌+◌, ◌≤◌, ◌<◌}
+use Prim.Native.Nat.{ℕ, ◌≤◌, ◌<◌}
 use mathlib.Core.Path.{◌≡◌, ap, ◌∙◌}
 use mathlib.Core.Bool.{true}
 use mathlib.Core.List.{List, ◌++◌}

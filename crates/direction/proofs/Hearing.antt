@@ -20,7 +20,6 @@ use Rattle.counters.specs.Wrapped.{within}
 use Rattle.counters.specs.Counters.{seq, ack_answer}
 use Rattle.counters.proofs.Wrap.{minus_ahead}
 use Rattle.frames.specs.declared.Message.{Message}
-use Rattle.frames.specs.declared.Message.TheVariants as Message
 use Rattle.store.specs.Store.{capacity, held}
 use Rattle.line.specs.declared.Slot.{Slot}
 use Rattle.setup.specs.declared.Setup.{Setup}

@@ -3,12 +3,9 @@
 use Prim.Native.Nat.{ℕ}
 use mathlib.Core.Path.{◌≡◌}
 use Rattle.basics.specs.declared.Found.{Found}
-use Rattle.basics.specs.declared.Found.TheVariants as Found
 use Rattle.frames.specs.declared.Frame.{Frame}
 use Rattle.line.specs.declared.Front.{Front}
-use Rattle.line.specs.declared.Front.TheVariants as Front
 use Rattle.sender.specs.declared.New.{New}
-use Rattle.sender.specs.declared.New.TheVariants as New
 use Rattle.sender.specs.Sources.{replay_frame, replayed, new_of, new_frame, sent_new}
 use Rattle.receiver.specs.Receiver.{nak_of, ack_of, cleared, first_marked, update_frame, told}
 use Rattle.ends.specs.declared.End.{End}

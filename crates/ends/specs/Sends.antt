@@ -2,13 +2,10 @@
 -- Assumes nothing.
 use Rattle.std.specs.Prelude.{ℕ}
 use Rattle.basics.specs.declared.Found.{Found}
-use Rattle.basics.specs.declared.Found.TheVariants as Found
 use Rattle.frames.specs.declared.Frame.{Frame}
 use Rattle.line.specs.declared.Front.{Front}
-use Rattle.line.specs.declared.Front.TheVariants as Front
 use Rattle.sender.specs.declared.Sender.{Sender}
 use Rattle.sender.specs.declared.New.{New}
-use Rattle.sender.specs.declared.New.TheVariants as New
 use Rattle.sender.specs.Sources.{replay_frame, replayed, new_of, new_frame, sent_new}
 use Rattle.receiver.specs.declared.Receiver.{Receiver}
 use Rattle.receiver.specs.Receiver.{nak_of, ack_of, cleared, first_marked, update_frame, told}

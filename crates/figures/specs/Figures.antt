@@ -1,12 +1,10 @@
 -- The twelve figures (a) to (l): what the definitions give, beside what document 01 wants.
 -- Assumes nothing.
-use Rattle.std.specs.Prelude.{ℕ, Bool, true, false, List, [], ◌∷◌}
+use Rattle.std.specs.Prelude.{ℕ, Bool, List, [], ◌∷◌}
 use Rattle.basics.specs.Choice.{if◌then◌else◌}
 use Rattle.counters.specs.declared.Order.{Order}
-use Rattle.counters.specs.declared.Order.TheVariants as Order
 use Rattle.counters.specs.Wrapped.{gate}
 use Rattle.counters.specs.Counters.{header_range, header_half, data_range, data_half, seq, order_of, ack_answer}
-use Rattle.packets.specs.declared.Packet.{Packet}
 use Rattle.packets.specs.Packets.{data_units}
 
 -- ---- the questions

@@ -1,19 +1,16 @@
 -- Laws of the range rule: what answer 27 says of a frame, and what it says of an update made from numbers.
 -- Assumes nothing.
-use Prim.Native.Nat.{ℕ, ◌%◌, ◌<◌, ◌≤◌}
-use mathlib.Core.Path.{◌≡◌, refl, ap, sym, ◌∙◌}
+use Prim.Native.Nat.{ℕ, ◌<◌, ◌≤◌}
+use mathlib.Core.Path.{◌≡◌, refl}
 use mathlib.Core.Bool.{Bool, true, false}
 use native.Mathlib.Omega.{arith}
-use lib.Dec.{ltb}
 use borrow.Author.Tests.{lt-ltb, le-ltb}
 use Rattle.basics.specs.Choice.{if◌then◌else◌}
 use Rattle.counters.specs.Counters.{header_range}
 use Rattle.packets.specs.declared.Category.{Category}
 use Rattle.packets.specs.declared.Numbered.{Numbered}
-use Rattle.packets.specs.declared.Numbered.TheVariants as Numbered
 use Rattle.frames.specs.declared.Frame.{Frame}
 use Rattle.frames.specs.declared.Made.{Made}
-use Rattle.frames.specs.declared.Made.TheVariants as Made
 use Rattle.frames.specs.Frames.{in_range, frame_answer, update_frame, update_of}
 
 -- answered with 0: in range

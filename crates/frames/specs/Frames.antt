@@ -8,14 +8,10 @@ use Rattle.counters.specs.Counters.{header_range, data_range, seq_range, headers
 use Rattle.packets.specs.declared.Packet.{Packet}
 use Rattle.packets.specs.declared.Category.{Category}
 use Rattle.packets.specs.declared.Numbered.{Numbered}
-use Rattle.packets.specs.declared.Numbered.TheVariants as Numbered
-use Rattle.packets.specs.Packets.{packet_answer, numbered}
+use Rattle.packets.specs.Packets.{packet_answer}
 use Rattle.frames.specs.declared.Message.{Message}
-use Rattle.frames.specs.declared.Message.TheVariants as Message
 use Rattle.frames.specs.declared.Frame.{Frame}
-use Rattle.frames.specs.declared.Frame.TheVariants as Frame
 use Rattle.frames.specs.declared.Made.{Made}
-use Rattle.frames.specs.declared.Made.TheVariants as Made
 
 -- a number not over 4,095
 abbrev pub number_in_range : Seq → Bool

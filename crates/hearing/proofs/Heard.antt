@@ -22,7 +22,6 @@ use Rattle.credits.specs.declared.Credit.{Credit}
 use Rattle.credits.specs.Credits.{none, credit_for, updated}
 use Rattle.packets.specs.declared.Category.{Category}
 use Rattle.frames.specs.declared.Message.{Message}
-use Rattle.frames.specs.declared.Message.TheVariants as Message
 use Rattle.store.specs.Store.{capacity, held}
 use Rattle.store.proofs.Held.{held-released, len_released, length-released}
 use Rattle.setup.specs.Setup.{channels}

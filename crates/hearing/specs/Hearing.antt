@@ -12,7 +12,6 @@ use Rattle.counters.specs.Counters.{seq_range, ack_answer, update_answer}
 use Rattle.credits.specs.Credits.{updated}
 use Rattle.packets.specs.declared.Category.{Category}
 use Rattle.frames.specs.declared.Message.{Message}
-use Rattle.frames.specs.declared.Message.TheVariants as Message
 use Rattle.store.specs.Store.{released}
 use Rattle.setup.specs.Setup.{channels}
 use Rattle.sender.specs.declared.Sender.{Sender}
