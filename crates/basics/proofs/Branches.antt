@@ -1,11 +1,12 @@
 -- What holds of a choice by a test, from its two branches; what conjunctions of tests say; and where a row of answers refuses nothing.
 -- Assumes nothing.
+use Rattle.std.specs.Prelude.{if◌then◌else◌}
 use Prim.Native.Nat.{ℕ}
 use mathlib.Core.Path.{◌≡◌, refl}
 use mathlib.Core.Bool.{Bool, true, false, ◌&&◌, not}
 use lib.Dec.{eqb}
 use borrow.Author.Tests.{eqb-true, eqb-false}
-use Rattle.basics.specs.Choice.{if◌then◌else◌, first_of}
+use Rattle.basics.specs.Choice.{first_of}
 
 pub by_test : {A : Type 0} (P : A → Type 0) (b : Bool) {x y : A} → (b ≡ true → P x) → (b ≡ false → P y) → P (if b then x else y)
 by_test P true f g = f refl

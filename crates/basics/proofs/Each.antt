@@ -1,5 +1,6 @@
 -- Laws of a test that is asked of many: of each number below a bound, and of the elements or parts of a list up to the first that fails.
 -- Assumes nothing.
+use Rattle.std.specs.Prelude.{if◌then◌else◌}
 use Prim.Native.Nat.{ℕ, zero, suc, ◌+◌, ◌-◌, ◌*◌, ◌≤◌, ◌<◌}
 use mathlib.Core.Path.{◌≡◌, refl, ap, ◌∙◌}
 use mathlib.Core.Bool.{Bool, true, false, ◌&&◌}
@@ -12,7 +13,6 @@ use lib.Dec.{ltb}
 use borrow.Author.Tests.{ltb-true, ltb-false}
 use lib.ListN.{length, take, drop}
 use lib.Seq.{drop-drop}
-use Rattle.basics.specs.Choice.{if◌then◌else◌}
 use Rattle.basics.specs.Each.{each, first_not}
 use Rattle.basics.specs.Parts.{part, cut}
 use Rattle.basics.proofs.Branches.{and_left, and_right}

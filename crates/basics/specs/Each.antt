@@ -1,7 +1,6 @@
 -- A test that is asked of many: of each number below a bound, and of a list up to the first that fails.
 -- Assumes nothing.
-use Rattle.std.specs.Prelude.{ℕ, zero, suc, Bool, true, ◌&&◌, List, [], ◌∷◌}
-use Rattle.basics.specs.Choice.{if◌then◌else◌}
+use Rattle.std.specs.Prelude.{ℕ, zero, suc, Bool, true, ◌&&◌, List, [], ◌∷◌, if◌then◌else◌}
 
 -- does the test hold of each number below n?
 unfoldable pub each : ℕ → (ℕ → Bool) → Bool

@@ -1,7 +1,6 @@
 -- The steps of a single end whose state is handed in from outside: first of all answer 10, then the step.
 -- Assumes nothing.
-use Rattle.std.specs.Prelude.{ℕ}
-use Rattle.basics.specs.Choice.{if◌then◌else◌}
+use Rattle.std.specs.Prelude.{ℕ, if◌then◌else◌}
 use Rattle.packets.specs.declared.Packet.{Packet}
 use Rattle.frames.specs.declared.Frame.{Frame}
 use Rattle.line.specs.declared.Front.TheVariants as Front

@@ -1,7 +1,6 @@
 -- The four counters, their moduli and half ranges, and the tests that document 01 makes on them.
 -- Header units and data units stand side by side in `Counts`; no sum takes one of each. Assumes nothing.
-use Rattle.std.specs.Prelude.{ℕ, ◌-◌, Bool, ◌&&◌, ◌==◌}
-use Rattle.basics.specs.Choice.{if◌then◌else◌}
+use Rattle.std.specs.Prelude.{ℕ, ◌-◌, Bool, ◌&&◌, ◌==◌, if◌then◌else◌}
 use Rattle.counters.specs.Wrapped.{plus, minus, within, gate}
 use Rattle.counters.specs.declared.Header.{Header}
 use Rattle.counters.specs.declared.Data.{Data}

@@ -1,7 +1,6 @@
 -- Credits of one channel and category: consumed and limit at the sender, received and allocated at the receiver, the gate and the free room.
 -- Document 01, "Packets and their units", Take and answers 25 and 26. Assumes nothing.
-use Rattle.std.specs.Prelude.{ℕ, Bool, true, false, ◌&&◌, leb, ltb}
-use Rattle.basics.specs.Choice.{if◌then◌else◌}
+use Rattle.std.specs.Prelude.{ℕ, Bool, true, false, ◌&&◌, leb, ltb, if◌then◌else◌}
 use Rattle.counters.specs.declared.Counts.{Counts}
 use Rattle.counters.specs.Counters.{header_range, headers, datas, counts, added, between, may_send}
 use Rattle.credits.specs.declared.Credit.{Credit}

@@ -1,7 +1,6 @@
 -- What a packet does at the receiving half when it arrives whole or damaged, and Take.
 -- Assumes nothing.
-use Rattle.std.specs.Prelude.{ℕ, Bool, false, not, leb, ltb, eqb, set}
-use Rattle.basics.specs.Choice.{if◌then◌else◌}
+use Rattle.std.specs.Prelude.{ℕ, Bool, false, not, leb, ltb, eqb, set, if◌then◌else◌}
 use Rattle.basics.specs.Lists.{find}
 use Rattle.basics.specs.declared.Found.{Found}
 use Rattle.basics.specs.declared.Found.TheVariants.{At, Nothing}

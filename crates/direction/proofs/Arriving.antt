@@ -1,5 +1,6 @@
 -- A packet of the direction reaches the receiving half, whole or damaged, or is lost: it is accepted in its order with room to spare, or it is
 -- dropped. Assumes nothing.
+use Rattle.std.specs.Prelude.{if◌then◌else◌}
 use Prim.Native.Nat.{ℕ, suc, ◌+◌, ◌*◌, ◌%◌, ◌≤◌, ◌<◌}
 use mathlib.Core.Path.{◌≡◌, refl, sym, ap, ◌∙◌}
 use mathlib.Core.Logic.{◌≢◌, by_cases}
@@ -11,7 +12,6 @@ use borrow.Author.Tests.{eqb-true, eqb-false, eq-eqb, ne_eqb, leb-true, leb-fals
 use lib.Dec.{leb, eqb}
 use lib.ListN.{length, get_or, take}
 use lib.Seq.{take-suc}
-use Rattle.basics.specs.Choice.{if◌then◌else◌}
 use Rattle.basics.proofs.All.{all-at}
 use Rattle.counters.specs.declared.Seq.{Seq}
 use Rattle.counters.specs.declared.Order.{Order}

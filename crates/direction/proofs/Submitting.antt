@@ -1,5 +1,6 @@
 -- Submit keeps the direction: the packet joins its channel's send queue.
 -- Assumes nothing.
+use Rattle.std.specs.Prelude.{if◌then◌else◌}
 use Prim.Native.Nat.{ℕ, ◌≤◌, ◌<◌}
 use mathlib.Core.Path.{◌≡◌, refl, sym, ◌∙◌}
 use mathlib.Core.Logic.{◌≢◌, by_cases}
@@ -11,7 +12,6 @@ use borrow.Author.Tests.{le-leb, eq-eqb}
 use lib.Dec.{eqb}
 use lib.ListN.{length, length-append}
 use Rattle.basics.specs.Lists.{all}
-use Rattle.basics.specs.Choice.{if◌then◌else◌}
 use Rattle.basics.proofs.All.{all_snoc}
 use Rattle.basics.proofs.Filters.{filter-append}
 use Rattle.packets.specs.declared.Packet.{Packet}

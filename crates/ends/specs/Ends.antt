@@ -1,7 +1,7 @@
 -- One end of a link: its state, the start, and its steps but Send. Document 01, "The eight steps" and "What an arrival does".
 -- The setup is as the end sees it: its own units first, then the other end's. Assumes nothing.
-use Rattle.std.specs.Prelude.{ℕ, leb, ltb, eqb, length}
-use Rattle.basics.specs.Choice.{if◌then◌else◌, first_of}
+use Rattle.std.specs.Prelude.{ℕ, leb, ltb, eqb, length, if◌then◌else◌}
+use Rattle.basics.specs.Choice.{first_of}
 use Rattle.packets.specs.declared.Packet.{Packet}
 use Rattle.packets.specs.Packets.{number_of, category_of, packet_answer, data_units}
 use Rattle.frames.specs.declared.Frame.{Frame}

@@ -1,7 +1,6 @@
 -- The twelve figures (a) to (l): what the definitions give, beside what document 01 wants.
 -- Assumes nothing.
-use Rattle.std.specs.Prelude.{ℕ, Bool, List, [], ◌∷◌}
-use Rattle.basics.specs.Choice.{if◌then◌else◌}
+use Rattle.std.specs.Prelude.{ℕ, Bool, List, [], ◌∷◌, if◌then◌else◌}
 use Rattle.counters.specs.declared.Order.{Order}
 use Rattle.counters.specs.Wrapped.{gate}
 use Rattle.counters.specs.Counters.{header_range, header_half, data_range, data_half, seq, order_of, ack_answer}

@@ -1,11 +1,11 @@
 -- Laws of the range rule: what answer 27 says of a frame, and what it says of an update made from numbers.
 -- Assumes nothing.
+use Rattle.std.specs.Prelude.{if◌then◌else◌}
 use Prim.Native.Nat.{ℕ, ◌<◌, ◌≤◌}
 use mathlib.Core.Path.{◌≡◌, refl}
 use mathlib.Core.Bool.{Bool, true, false}
 use native.Mathlib.Omega.{arith}
 use borrow.Author.Tests.{lt-ltb, le-ltb}
-use Rattle.basics.specs.Choice.{if◌then◌else◌}
 use Rattle.counters.specs.Counters.{header_range}
 use Rattle.packets.specs.declared.Category.{Category}
 use Rattle.packets.specs.declared.Numbered.{Numbered}

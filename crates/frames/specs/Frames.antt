@@ -1,7 +1,6 @@
 -- Frames: a packet with its number, or a link message: Ack, Nak or update. The range rule of answer 27.
 -- Assumes nothing.
-use Rattle.std.specs.Prelude.{ℕ, Bool, ◌&&◌, ltb, eqb}
-use Rattle.basics.specs.Choice.{if◌then◌else◌}
+use Rattle.std.specs.Prelude.{ℕ, Bool, ◌&&◌, ltb, eqb, if◌then◌else◌}
 use Rattle.counters.specs.declared.Seq.{Seq}
 use Rattle.counters.specs.declared.Counts.{Counts}
 use Rattle.counters.specs.Counters.{header_range, data_range, seq_range, headers, datas, counts}

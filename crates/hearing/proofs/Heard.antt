@@ -1,5 +1,6 @@
 -- What a link message leaves at the sending half: what each answer says, what is held, and that the arrays keep their lengths.
 -- Where it is said, the arrays have their lengths (`Arrays`), as every value of the code has. Assumes nothing else.
+use Rattle.std.specs.Prelude.{if◌then◌else◌}
 use Prim.Native.Nat.{ℕ, ◌-◌, ◌+◌, ◌<◌, ◌≤◌}
 use mathlib.Core.Path.{◌≡◌, refl, sym, ap, ◌∙◌}
 use mathlib.Core.Logic.{◌≢◌}
@@ -10,7 +11,6 @@ use lib.Dec.{leb, ltb, eqb}
 use lib.ListN.{drop, length, length-set}
 use lib.Seq.{get_or-set_same, get_or-set_other}
 use Rattle.packets.specs.Packets.{slot_of}
-use Rattle.basics.specs.Choice.{if◌then◌else◌}
 use Rattle.basics.specs.declared.Found.TheVariants.{At, Nothing}
 use Rattle.basics.proofs.Branches.{by_test}
 use Rattle.basics.proofs.Finds.{place_of, apart}

@@ -1,8 +1,7 @@
 -- What a link message does at the sending half of an end. Document 01, "What an arrival does", its last two paragraphs.
 -- Assumes nothing.
-use Rattle.std.specs.Prelude.{ℕ, ◌-◌, Bool, true, false, ◌&&◌, leb, ltb, eqb}
+use Rattle.std.specs.Prelude.{ℕ, ◌-◌, Bool, true, false, ◌&&◌, leb, ltb, eqb, if◌then◌else◌}
 use Rattle.packets.specs.Packets.{slot_of}
-use Rattle.basics.specs.Choice.{if◌then◌else◌}
 use Rattle.basics.specs.declared.Found.{Found}
 use Rattle.basics.specs.declared.Found.TheVariants.{At, Nothing}
 use Rattle.counters.specs.declared.Counts.{Counts}

@@ -1,9 +1,9 @@
 -- A step on its part, put back, is the step of the whole end.
 -- Assumes nothing.
+use Rattle.std.specs.Prelude.{if◌then◌else◌}
 use mathlib.Core.Path.{◌≡◌, refl}
 use mathlib.Core.Bool.{Bool, true, false}
 use lib.Dec.{eqb}
-use Rattle.basics.specs.Choice.{if◌then◌else◌}
 use Rattle.frames.specs.declared.Frame.{Frame}
 use Rattle.sender.specs.Sender as S
 use Rattle.sender.specs.Sender.{with_replay, begun, told}

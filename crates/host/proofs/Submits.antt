@@ -1,4 +1,5 @@
 -- A step on the one element that it changes is the step on the whole end. Assumes nothing.
+use Rattle.std.specs.Prelude.{if◌then◌else◌}
 use Prim.Native.Nat.{ℕ, ◌<◌, ◌≤◌}
 use mathlib.Core.Bool.{Bool, true, false}
 use mathlib.Core.List.{List}
@@ -8,7 +9,6 @@ use borrow.Author.Tests.{leb-true, leb-false, eqb-true, lt-ltb, le-ltb}
 use lib.Dec.{ltb, leb, eqb}
 use lib.ListN.{length, get_or-eq_default}
 use lib.Seq.{set-get_or, set_out}
-use Rattle.basics.specs.Choice.{if◌then◌else◌}
 use Rattle.basics.proofs.Branches.{by_test}
 use Rattle.packets.specs.declared.Packet.{Packet}
 use Rattle.store.specs.declared.Packets.{Packets}

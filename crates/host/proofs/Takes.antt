@@ -1,5 +1,6 @@
 -- Take on the inbox and the room that it changes is Take on the whole end; where they stand; and the ways through its functions, over plain values.
 -- Assumes nothing.
+use Rattle.std.specs.Prelude.{if◌then◌else◌}
 use Prim.Native.Nat.{ℕ, ◌<◌, ◌≤◌}
 use mathlib.Core.Bool.{Bool, true, false}
 use mathlib.Core.List.{List}
@@ -9,7 +10,6 @@ use borrow.Author.Tests.{le-leb, lt-leb, leb-false}
 use lib.Dec.{leb}
 use lib.ListN.{set}
 use lib.Seq.{set-get_or}
-use Rattle.basics.specs.Choice.{if◌then◌else◌}
 use Rattle.basics.specs.Lists.{find}
 use Rattle.basics.specs.declared.Found.{Found}
 use Rattle.basics.specs.declared.Found.TheVariants.{At, Nothing}

@@ -1,7 +1,7 @@
 -- What a step does to the one element of an end that it changes, so that the end itself is not copied. No public promise cites these: each
 -- is proved to be its part of ends/Ends (proofs/Submits, proofs/Takes). Assumes nothing.
-use Rattle.std.specs.Prelude.{ℕ, leb, ltb, eqb, length}
-use Rattle.basics.specs.Choice.{if◌then◌else◌, first_of}
+use Rattle.std.specs.Prelude.{ℕ, leb, ltb, eqb, length, if◌then◌else◌}
+use Rattle.basics.specs.Choice.{first_of}
 use Rattle.basics.specs.Lists.{find}
 use Rattle.basics.specs.declared.Found.{Found}
 use Rattle.basics.specs.declared.Found.TheVariants.{At, Nothing}

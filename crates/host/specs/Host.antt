@@ -1,7 +1,6 @@
 -- What the thin functions of a host's end are made of: each step on the part that it may change, and what it says.
 -- Assumes nothing.
-use Rattle.std.specs.Prelude.{ℕ, eqb}
-use Rattle.basics.specs.Choice.{if◌then◌else◌}
+use Rattle.std.specs.Prelude.{ℕ, eqb, if◌then◌else◌}
 use Rattle.frames.specs.declared.Frame.{Frame}
 use Rattle.sender.specs.declared.Replay.{Replay}
 use Rattle.sender.specs.Sender.{begun}

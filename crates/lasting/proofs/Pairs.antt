@@ -1,6 +1,7 @@
 -- A step of a pair in shape leaves it in shape: the next step is not answered 10.
 -- There are two ends and two lines, the arrays have their lengths, and both ends use as many channels. Without the last it is false: an update of
 -- one end could name a channel that the other does not use. Assumes nothing else.
+use Rattle.std.specs.Prelude.{if◌then◌else◌}
 use Prim.Native.Nat.{ℕ, zero, suc, ◌≤◌}
 use mathlib.Core.Path.{◌≡◌, refl, sym, ◌∙◌}
 use mathlib.Core.Bool.{true, false, ◌&&◌, not}
@@ -8,7 +9,6 @@ use native.Mathlib.Omega.{arith}
 use borrow.Author.Tests.{le-leb, lt-leb, leb-true, ltb-false, eq-eqb}
 use lib.Dec.{leb, ltb, eqb}
 use lib.ListN.{length, set, length-set}
-use Rattle.basics.specs.Choice.{if◌then◌else◌}
 use Rattle.basics.specs.Lists.{all}
 use Rattle.basics.proofs.All.{all_snoc, all_drop}
 use Rattle.basics.proofs.Branches.{by_test, and_left, and_right}

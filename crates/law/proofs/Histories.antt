@@ -1,5 +1,6 @@
 -- Over every list of steps both directions are kept, and their pasts hold what the history accepted and took.
 -- Assumes nothing.
+use Rattle.std.specs.Prelude.{if◌then◌else◌}
 use Prim.Native.Nat.{ℕ, ◌<◌}
 use mathlib.Core.Path.{◌≡◌, refl}
 use mathlib.Core.Logic.{◌≢◌, by_cases}
@@ -9,7 +10,6 @@ use native.Mathlib.Decide.{ℕ_discrete}
 use native.Mathlib.Omega.{arith}
 use borrow.Author.Tests.{ne_eqb, lt-ltb}
 use lib.Dec.{eqb}
-use Rattle.basics.specs.Choice.{if◌then◌else◌}
 use Rattle.script.specs.declared.Step.{Step}
 use Rattle.script.specs.Step.{is_submit, is_take}
 use Rattle.pairs.specs.declared.Pair.{Pair}

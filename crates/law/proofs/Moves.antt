@@ -1,4 +1,5 @@
 -- Send and Arrive of the pair within a quiet round, seen from the end that acts. Assumes nothing.
+use Rattle.std.specs.Prelude.{if◌then◌else◌}
 use Prim.Native.Nat.{ℕ, zero, suc, pred, ◌+◌, ◌-◌, ◌<◌, ◌≤◌}
 use mathlib.Core.Path.{◌≡◌, refl, sym, ap, subst, ◌∙◌}
 use mathlib.Core.Logic.{◌≢◌, by_cases}
@@ -10,7 +11,6 @@ use borrow.Author.Tests.{eq-eqb, le-leb, le-ltb}
 use lib.Dec.{eqb, leb, ltb}
 use lib.ListN.{length, get_or, set, length-set}
 use lib.Seq.{get_or-set_same, get_or-set_other}
-use Rattle.basics.specs.Choice.{if◌then◌else◌}
 use Rattle.basics.proofs.Branches.{by_test}
 use Rattle.packets.specs.declared.Packet.{Packet}
 use Rattle.frames.specs.declared.Frame.{Frame}

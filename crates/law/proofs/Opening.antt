@@ -1,5 +1,6 @@
 -- The opening of a quiet round: Timer at 0, at 1; Refresh at 0, at 1. From then on every frame on a line counts as old.
 -- Assumes nothing.
+use Rattle.std.specs.Prelude.{if◌then◌else◌}
 use Prim.Native.Nat.{ℕ, ◌+◌, ◌<◌, ◌≤◌}
 use mathlib.Core.Path.{◌≡◌, refl, sym, ap, subst, ◌∙◌}
 use mathlib.Core.Logic.{◌≢◌, by_cases}
@@ -11,7 +12,6 @@ use borrow.Author.Tests.{le-leb, le-ltb, eqb-true, eqb-false}
 use lib.Dec.{eqb, leb, ltb}
 use lib.ListN.{length, get_or, set, length-set}
 use lib.Seq.{get_or-set_same, get_or-set_other}
-use Rattle.basics.specs.Choice.{if◌then◌else◌}
 use Rattle.basics.proofs.Branches.{by_test}
 use Rattle.packets.specs.declared.Packet.{Packet}
 use Rattle.line.specs.declared.Line.{Line}

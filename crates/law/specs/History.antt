@@ -1,7 +1,6 @@
 -- The history of a pair: what each step answered, and which packets were accepted and taken. Demand 3 speaks of these.
 -- Assumes nothing.
-use Rattle.std.specs.Prelude.{ℕ, ◌+◌, ◌-◌, ◌<◌, ◌≡◌, Bool, true, ◌&&◌, List, [], ◌∷◌, map, eqb, length, get_or, drop}
-use Rattle.basics.specs.Choice.{if◌then◌else◌}
+use Rattle.std.specs.Prelude.{ℕ, ◌+◌, ◌-◌, ◌<◌, ◌≡◌, Bool, true, ◌&&◌, List, [], ◌∷◌, map, eqb, length, get_or, drop, if◌then◌else◌}
 use Rattle.basics.specs.declared.Found.TheVariants as Found
 use Rattle.basics.specs.Lists.{filter}
 use Rattle.counters.specs.Wrapped.{minus}

@@ -1,5 +1,6 @@
 -- What is on a line after each change, and that its array keeps its length.
 -- Its array has 16 places, as every value of the code has. Assumes nothing else.
+use Rattle.std.specs.Prelude.{if◌then◌else◌}
 use Prim.Native.Nat.{ℕ, ◌+◌, ◌-◌, ◌<◌, ◌≤◌}
 use mathlib.Core.Path.{◌≡◌, refl, sym, ap, ◌∙◌}
 use mathlib.Core.Bool.{Bool, true, false, ◌&&◌}
@@ -9,7 +10,6 @@ use borrow.Author.Tests.{lt-ltb, le-leb, leb-true, leb-false, eqb-true, eqb-fals
 use lib.Dec.{leb, ltb, eqb}
 use lib.ListN.{length, drop, get_or, length-set, length-take}
 use lib.Seq.{length-take-le}
-use Rattle.basics.specs.Choice.{if◌then◌else◌}
 use Rattle.basics.proofs.Shift.{take-pushed, take-moved, length_moved}
 use Rattle.basics.proofs.Branches.{by_test, and_left, and_right}
 use Rattle.basics.proofs.Walk.{kept, rest_cons}

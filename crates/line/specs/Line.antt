@@ -1,8 +1,7 @@
 -- One line of the link: what is on it, one frame more, its oldest frame and what is left without it.
 -- Assumes nothing.
-use Rattle.std.specs.Prelude.{ℕ, ◌+◌, ◌-◌, Bool, ◌&&◌, List, leb, ltb, eqb, take, drop, set, get_or, replicate}
+use Rattle.std.specs.Prelude.{ℕ, ◌+◌, ◌-◌, Bool, ◌&&◌, List, leb, ltb, eqb, take, drop, set, get_or, replicate, if◌then◌else◌}
 use Rattle.std.proofs.Math.Seq.{paste}
-use Rattle.basics.specs.Choice.{if◌then◌else◌}
 use Rattle.counters.specs.Counters.{seq}
 use Rattle.frames.specs.declared.Frame.{Frame}
 use Rattle.frames.specs.declared.Frame.TheVariants as Frame

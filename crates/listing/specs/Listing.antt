@@ -1,9 +1,8 @@
 -- The listing's text: numbers in decimal, and each line as its bytes.
 -- Assumes nothing.
-use Rattle.std.specs.Prelude.{ℕ, zero, suc, ◌+◌, ◌/◌, ◌%◌, List, [], ◌∷◌, ◌++◌, leb, ltb, length, take, drop}
+use Rattle.std.specs.Prelude.{ℕ, zero, suc, ◌+◌, ◌/◌, ◌%◌, List, [], ◌∷◌, ◌++◌, leb, ltb, length, take, drop, if◌then◌else◌}
 use Prim.Native.String.{String, [] as []ˢ, ◌∷◌ as ◌∷ˢ◌}
 use Prim.Native.Char.{code}
-use Rattle.basics.specs.Choice.{if◌then◌else◌}
 
 -- ---- texts and numbers
 

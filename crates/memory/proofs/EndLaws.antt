@@ -1,5 +1,6 @@
 -- The steps of one end in lent words, over plain values: Submit's refusals in turn, and a half that comes back to the end's words.
 -- Assumes that the words of the end are all there, where a half comes back.
+use Rattle.std.specs.Prelude.{if◌then◌else◌}
 use Prim.Native.Nat.{ℕ, ◌/◌, ◌%◌, ◌<◌, ◌≤◌}
 use mathlib.Core.Path.{◌≡◌, refl, sym, ap, ◌∙◌}
 use mathlib.Core.Bool.{Bool, true, false}
@@ -8,7 +9,7 @@ use mathlib.Core.List.{List, ◌++◌}
 use borrow.Author.Tests.{ne_eqb, lt-ltb, le-ltb, le-leb, lt-leb}
 use lib.Dec.{eqb}
 use lib.ListN.{length, take, drop}
-use Rattle.basics.specs.Choice.{if◌then◌else◌, first_of}
+use Rattle.basics.specs.Choice.{first_of}
 use Rattle.basics.specs.Parts.{part}
 use Rattle.counters.specs.declared.Counts.{Counts}
 use Rattle.counters.specs.declared.Seq.{Seq}

@@ -1,5 +1,6 @@
 -- Laws of an end in its host's memory: its parts read and written anew, and from a step of a part to the step of the end that is promised.
 -- Assumes of most that the memory has all words of an end and its setup.
+use Rattle.std.specs.Prelude.{if◌then◌else◌}
 use Prim.Native.Nat.{ℕ, ◌+◌, ◌*◌, ◌/◌, ◌%◌, ◌≤◌, ◌<◌}
 use mathlib.Core.Path.{◌≡◌, refl, sym, ap, ◌∙◌}
 use mathlib.Core.Logic.{◌≢◌}
@@ -10,7 +11,6 @@ use borrow.Author.Tests.{lt-ltb, le-ltb, eq-eqb, ne_eqb}
 use lib.Dec.{eqb}
 use lib.ListN.{length, get_or, take, drop, set, length-set}
 use lib.Seq.{take-take, get_or-set_same}
-use Rattle.basics.specs.Choice.{if◌then◌else◌}
 use Rattle.basics.specs.Parts.{part}
 use Rattle.basics.proofs.Places.{get_d_any}
 use Rattle.frames.specs.declared.Frame.{Frame}

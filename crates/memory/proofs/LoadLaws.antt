@@ -1,5 +1,6 @@
 -- Laws of an array that is read from a memory place by place: from a word each, or from a part of one width each. Places 0 to i - 1 are read,
 -- and behind them stands what was there first. They hold of any elements. Assumes nothing.
+use Rattle.std.specs.Prelude.{if◌then◌else◌}
 use Prim.Native.Nat.{ℕ, ◌+◌, ◌*◌, ◌≤◌, ◌<◌}
 use mathlib.Core.Path.{◌≡◌, sym, ap, ◌∙◌}
 use mathlib.Core.List.{List, [], ◌∷◌, ◌++◌, map, append-nil}
@@ -8,7 +9,6 @@ use borrow.Author.Tests.{eq-eqb}
 use lib.Dec.{eqb}
 use lib.ListN.{length, get_or, take, drop, set, take-append-drop}
 use lib.Seq.{take-length, drop-length, drop-nil, length-take-le}
-use Rattle.basics.specs.Choice.{if◌then◌else◌}
 use Rattle.basics.specs.Parts.{part, cut}
 use Rattle.basics.proofs.Parts.{filled, filled-set, filled_whole, length-read, read_more}
 use Rattle.basics.proofs.Maps.{length_made, made_more}

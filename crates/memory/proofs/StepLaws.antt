@@ -1,5 +1,6 @@
 -- One step of a pair in lent words, over plain values: the steps of one end alone joined, the step by its number, and what is refused before it.
 -- Assumes nothing.
+use Rattle.std.specs.Prelude.{if◌then◌else◌}
 use Prim.Native.Nat.{ℕ, ◌+◌, ◌-◌, ◌<◌, ◌≤◌}
 use mathlib.Core.Path.{◌≡◌, refl, sym, ap, ◌∙◌}
 use mathlib.Core.Bool.{Bool, true, false, not}
@@ -8,7 +9,6 @@ use mathlib.Core.List.{List}
 use borrow.Author.Tests.{eq-eqb, ne_eqb, lt-ltb, le-ltb}
 use lib.Dec.{eqb}
 use lib.ListN.{length, get_or}
-use Rattle.basics.specs.Choice.{if◌then◌else◌}
 use Rattle.packets.specs.declared.Packet.{Packet}
 use Rattle.setup.specs.declared.Setup.{Setup}
 use Rattle.setup.specs.Setup.{blank_setup}

@@ -1,5 +1,6 @@
 -- Laws of a memory that is written place by place from an array, and of the halves of an end written part by part.
 -- Assumes that the memory has all its words.
+use Rattle.std.specs.Prelude.{if◌then◌else◌}
 use Prim.Native.Nat.{ℕ, suc, ◌+◌, ◌-◌, ◌*◌, ◌≤◌, ◌<◌}
 use mathlib.Core.Path.{◌≡◌, refl, sym, ap, ◌∙◌}
 use mathlib.Core.List.{List, [], ◌∷◌, ◌++◌, map, map-append}
@@ -9,7 +10,6 @@ use borrow.Author.Tests.{eq-eqb}
 use lib.Dec.{eqb}
 use lib.ListN.{length, get_or, take, drop, set, length-set}
 use lib.Seq.{take-suc, take-suc-set, take-set-le, get_or-set_same}
-use Rattle.basics.specs.Choice.{if◌then◌else◌}
 use Rattle.basics.specs.Parts.{cut}
 use Rattle.basics.proofs.Parts.{read_more, listed, listed_all}
 use Rattle.basics.proofs.Places.{get_d_any}

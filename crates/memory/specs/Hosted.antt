@@ -1,7 +1,7 @@
 -- An end in memory that its host lends as words, its setup behind it: what the words mean, what a step there says, and what it leaves.
 -- Assumes nothing: words that are missing count as 0.
-use Rattle.std.specs.Prelude.{ℕ, ◌/◌, ◌%◌, ◌≡◌, Bool, true, false, ◌&&◌, List, map, eqb, ltb, length, get_or}
-use Rattle.basics.specs.Choice.{if◌then◌else◌, first_of}
+use Rattle.std.specs.Prelude.{ℕ, ◌/◌, ◌%◌, ◌≡◌, Bool, true, false, ◌&&◌, List, map, eqb, ltb, length, get_or, if◌then◌else◌}
+use Rattle.basics.specs.Choice.{first_of}
 use Rattle.basics.specs.Parts.{part}
 use Rattle.packets.specs.declared.Packet.{Packet}
 use Rattle.line.specs.declared.Front.{Front}

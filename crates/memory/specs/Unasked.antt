@@ -1,7 +1,6 @@
 -- One step of a pair, without asking first for its shape: for whoever knows that the pair is in shape.
 -- Assumes nothing.
-use Rattle.std.specs.Prelude.{not, List, [], ◌∷◌, eqb, ltb}
-use Rattle.basics.specs.Choice.{if◌then◌else◌}
+use Rattle.std.specs.Prelude.{not, List, [], ◌∷◌, eqb, ltb, if◌then◌else◌}
 use Rattle.setup.specs.declared.Setup.{Setup}
 use Rattle.script.specs.declared.Step.{Step}
 use Rattle.script.specs.Step.{formed}

@@ -15,8 +15,7 @@ mod setups;
 mod sources;
 mod stores;
 
-ghost use Rattle.std.specs.Prelude.{◌≡◌, ◌≤◌, eqb, length};
-ghost use Rattle.basics.specs.Choice.{if◌then◌else◌};
+ghost use Rattle.std.specs.Prelude.{◌≡◌, ◌≤◌, eqb, length, if◌then◌else◌};
 ghost use Rattle.ends.specs.Ends.{arrive_of, damage_of};
 ghost use Rattle.setup.specs.Setup.{blank_setup};
 ghost use Rattle.pairs.specs.Pairs.{start_of, send_at, reach_at, lose_at};

@@ -1,10 +1,9 @@
 // A bounded list of packets in lent words, oldest first: one more, some taken out, and the walks along it.
 // Assumes that 49 words are lent: 48 places and the length.
-ghost use Rattle.std.specs.Prelude.{◌≡◌, map, ◌+◌, ◌-◌, ◌≤◌, length, drop};
+ghost use Rattle.std.specs.Prelude.{◌≡◌, map, ◌+◌, ◌-◌, ◌≤◌, length, drop, if◌then◌else◌};
 ghost use Rattle.std.proofs.Math.Seq.{paste};
 ghost use Rattle.basics.specs.Lists.{find};
 ghost use Rattle.choice.specs.Choice.{credit_of, chosen};
-ghost use Rattle.basics.specs.Choice.{if◌then◌else◌};
 ghost use Rattle.store.specs.Store.{held, at, pushed, without, removed, released, is_of, of_category};
 ghost use Rattle.words.specs.Words.{packet_in, credit_in};
 ghost use Rattle.words.specs.Memory.{places, list_words, packets_in};

@@ -1,5 +1,6 @@
 -- Packets that enter a list at its end and leave it by category stay in order: through one list, and through two in a row.
 -- Assumes nothing.
+use Rattle.std.specs.Prelude.{if◌then◌else◌}
 use Prim.Native.Nat.{ℕ, suc, ◌+◌, ◌≤◌, ◌<◌}
 use mathlib.Core.Path.{◌≡◌, refl, sym, subst, ◌∙◌}
 use mathlib.Core.Logic.{◌⊎◌}
@@ -11,7 +12,6 @@ use lib.ListN.{length, get_or, take, drop}
 use lib.Seq.{split_at}
 use Rattle.basics.specs.Lists.{all}
 use Rattle.basics.proofs.Filters.{filter-append, filter_none}
-use Rattle.basics.specs.Choice.{if◌then◌else◌}
 use Rattle.packets.specs.declared.Packet.{Packet}
 use Rattle.packets.specs.declared.Category.{Category}
 use Rattle.packets.specs.declared.Category.TheVariants.{Posted, NonPosted, Completion}

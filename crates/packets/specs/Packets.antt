@@ -1,7 +1,7 @@
 -- Packets: their kinds, what is refused of them (12, 13, 14) and the units that they cost.
 -- Document 01, "Packets and their units", in its order. Assumes nothing.
-use Rattle.std.specs.Prelude.{ℕ, ◌+◌, ◌*◌, ◌/◌, Bool, true, false, ◌&&◌, ◌||◌, not, List, [], ◌∷◌, leb, ltb, eqb, get_or}
-use Rattle.basics.specs.Choice.{if◌then◌else◌, first_of}
+use Rattle.std.specs.Prelude.{ℕ, ◌+◌, ◌*◌, ◌/◌, Bool, true, false, ◌&&◌, ◌||◌, not, List, [], ◌∷◌, leb, ltb, eqb, get_or, if◌then◌else◌}
+use Rattle.basics.specs.Choice.{first_of}
 use Rattle.basics.specs.Lists.{total}
 use Rattle.counters.specs.Counters.{headers, datas, counts}
 use Rattle.counters.specs.declared.Counts.{Counts}

@@ -1,9 +1,9 @@
 -- The eight steps by their numbers.
 -- Assumes nothing.
+use Rattle.std.specs.Prelude.{if◌then◌else◌}
 use Prim.Native.Nat.{ℕ}
 use mathlib.Core.Path.{◌≡◌}
 use borrow.Author.Tests.{ne_eqb}
-use Rattle.basics.specs.Choice.{if◌then◌else◌}
 use Rattle.script.specs.declared.Step.{Step}
 use Rattle.ends.specs.Ends.{submit_of, arrive_of, damage_of, take_at, timer_of, refresh_of}
 use Rattle.pairs.specs.declared.Pair.{Pair}

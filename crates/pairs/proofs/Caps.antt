@@ -1,5 +1,6 @@
 -- Numbers that are too large for their types are refused as they are: Submit and Take answer the same for a capped number.
 -- Assumes nothing.
+use Rattle.std.specs.Prelude.{if◌then◌else◌}
 use Prim.Native.Nat.{ℕ, ◌≤◌, ◌<◌}
 use mathlib.Core.Path.{◌≡◌, refl, sym, ap, ◌∙◌}
 use mathlib.Core.Logic.{◌≢◌}
@@ -7,7 +8,7 @@ use mathlib.Core.Bool.{Bool, true, false, ◌&&◌, ◌||◌, not}
 use native.Mathlib.Omega.{arith}
 use borrow.Author.Tests.{le-leb, lt-leb, lt-ltb, ne_eqb, eqb-false, leb-true}
 use lib.Dec.{leb, ltb, eqb}
-use Rattle.basics.specs.Choice.{if◌then◌else◌, first_of}
+use Rattle.basics.specs.Choice.{first_of}
 use Rattle.basics.proofs.All.{all_past}
 use Rattle.basics.proofs.Branches.{by_test, and-false}
 use Rattle.basics.proofs.Each.{by_order_lem}

@@ -1,10 +1,10 @@
 -- The ways through Send and through what becomes of a line's oldest frame, over plain values: each way's answer is the definition's.
 -- Assumes nothing.
+use Rattle.std.specs.Prelude.{if◌then◌else◌}
 use Prim.Native.Nat.{ℕ}
 use mathlib.Core.Path.{◌≡◌, sym, ◌∙◌}
 use mathlib.Core.Bool.{true, false}
 use lib.ListN.{set}
-use Rattle.basics.specs.Choice.{if◌then◌else◌}
 use Rattle.frames.specs.declared.Frame.{Frame}
 use Rattle.line.specs.declared.Front.{Front}
 use Rattle.line.specs.declared.Front.TheVariants as Front

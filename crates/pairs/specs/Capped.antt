@@ -1,7 +1,6 @@
 -- A step's numbers as an end holds them: one that is too large for its type counts as the largest that fits. The rules 12, 13, 14 and 20 refuse
 -- both alike. Assumes nothing.
-use Rattle.std.specs.Prelude.{ℕ, leb}
-use Rattle.basics.specs.Choice.{if◌then◌else◌}
+use Rattle.std.specs.Prelude.{ℕ, leb, if◌then◌else◌}
 use Rattle.packets.specs.declared.Packet.{Packet}
 use Rattle.script.specs.declared.Step.{Step}
 

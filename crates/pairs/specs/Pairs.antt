@@ -1,7 +1,6 @@
 -- Two ends and one line each way: the start, and what each step does to the pair. Document 01, "The eight steps".
 -- Line i leads to end i. Assumes nothing.
-use Rattle.std.specs.Prelude.{ℕ, ◌-◌, Bool, List, [], ◌∷◌, ◌++◌, eqb, get_or, set, take, drop}
-use Rattle.basics.specs.Choice.{if◌then◌else◌}
+use Rattle.std.specs.Prelude.{ℕ, ◌-◌, Bool, List, [], ◌∷◌, ◌++◌, eqb, get_or, set, take, drop, if◌then◌else◌}
 use Rattle.frames.specs.declared.Frame.{Frame}
 use Rattle.line.specs.declared.Front.{Front}
 use Rattle.line.specs.declared.Front.TheVariants as Front

@@ -1,7 +1,6 @@
 -- One step of the pair by its six fields, and the shape of a pair.
 -- Assumes nothing.
-use Rattle.std.specs.Prelude.{ℕ, Bool, ◌&&◌, not, List, leb, ltb, eqb}
-use Rattle.basics.specs.Choice.{if◌then◌else◌}
+use Rattle.std.specs.Prelude.{ℕ, Bool, ◌&&◌, not, List, leb, ltb, eqb, if◌then◌else◌}
 use Rattle.basics.specs.Lists.{all}
 use Rattle.packets.specs.declared.Packet.{Packet}
 use Rattle.frames.specs.Frames.{frame_answer}

@@ -1,5 +1,6 @@
 -- No event of a quiet round makes a gap among the fresh packets of a direction, and none of them is out of order.
 -- Assumes nothing.
+use Rattle.std.specs.Prelude.{if◌then◌else◌}
 use Prim.Native.Nat.{ℕ, zero, suc, pred, ◌+◌, ◌-◌, ◌%◌, ◌≤◌, ◌<◌, max}
 use mathlib.Core.Path.{◌≡◌, refl, sym, ap, ◌∙◌}
 use mathlib.Core.Logic.{◌≢◌}
@@ -14,7 +15,6 @@ use lib.Seq.{get_or-drop, get_or-append_seam}
 use Rattle.basics.specs.declared.Found.{Found}
 use Rattle.basics.specs.declared.Found.TheVariants.{At, Nothing}
 use Rattle.basics.proofs.Branches.{by_test}
-use Rattle.basics.specs.Choice.{if◌then◌else◌}
 use Rattle.counters.specs.declared.Seq.{Seq}
 use Rattle.counters.specs.Wrapped.{plus}
 use Rattle.counters.specs.Counters.{seq, next_of, after_of}

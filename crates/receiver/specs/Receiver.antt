@@ -1,7 +1,6 @@
 -- The receiving half of an end: its state, the start, what it owes, its marked updates and Refresh.
 -- Assumes nothing.
-use Rattle.std.specs.Prelude.{ℕ, ◌+◌, ◌*◌, ◌/◌, ◌%◌, Bool, true, false, List, ◌++◌, map, ltb, eqb, set, get_or, take, drop, replicate}
-use Rattle.basics.specs.Choice.{if◌then◌else◌}
+use Rattle.std.specs.Prelude.{ℕ, ◌+◌, ◌*◌, ◌/◌, ◌%◌, Bool, true, false, List, ◌++◌, map, ltb, eqb, set, get_or, take, drop, replicate, if◌then◌else◌}
 use Rattle.basics.specs.Lists.{find}
 use Rattle.basics.specs.declared.Found.{Found}
 use Rattle.counters.specs.declared.Seq.{Seq}

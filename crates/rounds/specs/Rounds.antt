@@ -1,7 +1,6 @@
 -- A quiet round as a row of the pair's steps. Document 01, "Quiet round".
 -- Assumes nothing.
-use Rattle.std.specs.Prelude.{ℕ, zero, suc, eqb}
-use Rattle.basics.specs.Choice.{if◌then◌else◌}
+use Rattle.std.specs.Prelude.{ℕ, zero, suc, eqb, if◌then◌else◌}
 use Rattle.script.specs.declared.Step.{Step}
 use Rattle.setup.specs.Setup.{channels}
 use Rattle.pairs.specs.declared.Pair.{Pair}

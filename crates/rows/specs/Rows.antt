@@ -1,7 +1,6 @@
 -- A quiet round as a list of steps, part by part. Document 01, "Quiet round".
 -- Which Takes there are depends on what is refused, so those parts are of the pair that they start from. Assumes nothing.
-use Rattle.std.specs.Prelude.{ℕ, zero, suc, List, [], ◌∷◌, ◌++◌, eqb}
-use Rattle.basics.specs.Choice.{if◌then◌else◌}
+use Rattle.std.specs.Prelude.{ℕ, zero, suc, List, [], ◌∷◌, ◌++◌, eqb, if◌then◌else◌}
 use Rattle.script.specs.declared.Step.{Step}
 use Rattle.setup.specs.Setup.{channels}
 use Rattle.pairs.specs.declared.Pair.{Pair}

@@ -1,8 +1,7 @@
 -- A run whose pair is kept in memory: the pair there has arrays of the right lengths, stays in shape, and so is stepped without asking for it.
 -- Assumes nothing.
-use Rattle.std.proofs.Common.{◌≡◌, ℕ, zero, suc, ◌+◌, ◌*◌, ◌<◌, ◌≤◌, Bool, true, ◌&&◌, eqb, List, [], ◌∷◌, map, length, get_or, take, sym, refl, ◌∙◌, arith, length-take, eq-eqb, eqb-true}
+use Rattle.std.proofs.Common.{◌≡◌, ℕ, zero, suc, ◌+◌, ◌*◌, ◌<◌, ◌≤◌, Bool, true, ◌&&◌, eqb, List, [], ◌∷◌, map, length, get_or, take, sym, refl, ◌∙◌, arith, length-take, eq-eqb, eqb-true, if◌then◌else◌}
 use lib.ListN.{length-map, get_or-eq_default}
-use Rattle.basics.specs.Choice.{if◌then◌else◌}
 use Rattle.basics.specs.Parts.{part, cut}
 use Rattle.basics.proofs.Each.{by_order_lem}
 use Rattle.basics.proofs.Branches.{and_left, and_right}

@@ -1,7 +1,6 @@
 -- A run of steps over a pair, in order, with the packets accepted and taken at each end.
 -- Assumes nothing.
-use Rattle.std.specs.Prelude.{ℕ, ◌+◌, ◌*◌, ◌/◌, Bool, not, ◌&&◌, List, [], ◌∷◌, ◌++◌, length, take, drop, ◌==◌, nat_lt, slice_index, slice_set}
-use Rattle.basics.specs.Choice.{if◌then◌else◌}
+use Rattle.std.specs.Prelude.{ℕ, ◌+◌, ◌*◌, ◌/◌, Bool, not, ◌&&◌, List, [], ◌∷◌, ◌++◌, length, take, drop, ◌==◌, nat_lt, slice_index, slice_set, if◌then◌else◌}
 use Rattle.basics.specs.Parts.{part}
 use Rattle.counters.specs.Wrapped.{plus}
 use Rattle.script.specs.declared.Step.{Step}

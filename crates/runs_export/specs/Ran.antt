@@ -1,7 +1,6 @@
 -- What the run of a script gives a host: the answer, the counts, and the list of the answers.
 -- Assumes nothing.
-use Rattle.std.specs.Prelude.{ℕ, ◌%◌, List, [], ◌∷◌, length, ◌==◌}
-use Rattle.basics.specs.Choice.{if◌then◌else◌}
+use Rattle.std.specs.Prelude.{ℕ, ◌%◌, List, [], ◌∷◌, length, ◌==◌, if◌then◌else◌}
 use Rattle.pairs.specs.declared.Pair.{Pair}
 use Rattle.pairs.specs.Pairs.{end_at}
 use Rattle.script.specs.Script.{list_after, read_script, steps_in}

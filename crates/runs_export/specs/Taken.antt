@@ -1,7 +1,6 @@
 -- How many packets are taken in the run of a script.
 -- Assumes nothing.
-use Rattle.std.specs.Prelude.{ℕ, List, length, ◌==◌, slice_index}
-use Rattle.basics.specs.Choice.{if◌then◌else◌}
+use Rattle.std.specs.Prelude.{ℕ, List, length, ◌==◌, slice_index, if◌then◌else◌}
 use Rattle.counters.specs.Wrapped.{plus}
 use Rattle.setup.specs.declared.Setup.{Setup}
 use Rattle.script.specs.Script.{list_after, read_script, steps_in}

@@ -1,7 +1,6 @@
 -- A script: step records from offset 0, then the setup, then a trailer that points back.
 -- Assumes nothing.
-use Rattle.std.specs.Prelude.{ℕ, ◌+◌, ◌-◌, ◌*◌, Bool, ◌&&◌, not, List, [], ◌∷◌, ◌++◌, map, leb, ltb, eqb, get_or, length, drop}
-use Rattle.basics.specs.Choice.{if◌then◌else◌}
+use Rattle.std.specs.Prelude.{ℕ, ◌+◌, ◌-◌, ◌*◌, Bool, ◌&&◌, not, List, [], ◌∷◌, ◌++◌, map, leb, ltb, eqb, get_or, length, drop, if◌then◌else◌}
 use Rattle.basics.specs.Each.{first_not}
 use Rattle.basics.specs.Number.{four, whole_four}
 use Rattle.basics.specs.Parts.{part, cut, joined}

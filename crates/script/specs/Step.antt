@@ -1,7 +1,6 @@
 -- A step and its form; a step as six numbers, and as a record of 12 bytes.
 -- Assumes nothing.
-use Rattle.std.specs.Prelude.{ℕ, ◌<◌, Bool, ◌&&◌, ◌||◌, List, [], ◌∷◌, ◌++◌, leb, eqb, get_or}
-use Rattle.basics.specs.Choice.{if◌then◌else◌}
+use Rattle.std.specs.Prelude.{ℕ, ◌<◌, Bool, ◌&&◌, ◌||◌, List, [], ◌∷◌, ◌++◌, leb, eqb, get_or, if◌then◌else◌}
 use Rattle.basics.specs.Number.{four, two, whole_four, whole_two}
 use Rattle.setup.specs.Setup.{within}
 use Rattle.script.specs.declared.Step.{Step}

@@ -1,5 +1,6 @@
 -- What a sending half holds after each change: its queues, its credits, its replay buffer and its replay.
 -- Where it is said, its arrays have their lengths (`Arrays`), as every value of the code has. Assumes nothing else.
+use Rattle.std.specs.Prelude.{if◌then◌else◌}
 use Prim.Native.Nat.{ℕ, ◌+◌, ◌-◌, ◌<◌, ◌≤◌}
 use mathlib.Core.Path.{◌≡◌, refl, sym, ap, ◌∙◌}
 use mathlib.Core.Logic.{◌≢◌}
@@ -10,7 +11,6 @@ use borrow.Author.Tests.{lt-ltb, ltb-true, eq-eqb, ne_eqb}
 use lib.Dec.{ltb}
 use lib.ListN.{get_or, take, drop, get_or-map}
 use lib.Seq.{get_or-drop, get_or-set_same, get_or-set_other}
-use Rattle.basics.specs.Choice.{if◌then◌else◌}
 use Rattle.basics.specs.declared.Found.TheVariants.{At, Nothing}
 use Rattle.basics.proofs.Branches.{by_test}
 use Rattle.basics.proofs.Finds.{place_of, apart}

@@ -1,7 +1,6 @@
 -- The sending half of an end: its state, the start, Submit's change, a replay's start and Timer.
 -- Assumes nothing.
-use Rattle.std.specs.Prelude.{ℕ, ◌+◌, ◌*◌, List, map, ltb, eqb, set, get_or, drop, replicate}
-use Rattle.basics.specs.Choice.{if◌then◌else◌}
+use Rattle.std.specs.Prelude.{ℕ, ◌+◌, ◌*◌, List, map, ltb, eqb, set, get_or, drop, replicate, if◌then◌else◌}
 use Rattle.basics.specs.declared.Found.{Found}
 use Rattle.basics.specs.declared.Found.TheVariants.{At, Nothing}
 use Rattle.counters.specs.declared.Seq.{Seq}

@@ -1,7 +1,6 @@
 -- The packets that the sending half has for the line: the next of a running replay, or a new one.
 -- Assumes nothing.
-use Rattle.std.specs.Prelude.{ℕ, zero, suc, ◌+◌, List, [], ◌∷◌, ltb, set}
-use Rattle.basics.specs.Choice.{if◌then◌else◌}
+use Rattle.std.specs.Prelude.{ℕ, zero, suc, ◌+◌, List, [], ◌∷◌, ltb, set, if◌then◌else◌}
 use Rattle.basics.specs.declared.Found.{Found}
 use Rattle.basics.specs.declared.Found.TheVariants.{At, Nothing}
 use Rattle.counters.specs.Counters.{after_of, next_of}

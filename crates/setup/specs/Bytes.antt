@@ -1,7 +1,6 @@
 -- The setup's bytes.
 -- Assumes nothing.
-use Rattle.std.specs.Prelude.{ℕ, ◌+◌, ◌*◌, not, List, ◌∷◌, ◌++◌, map, ltb, eqb, get_or, length, drop}
-use Rattle.basics.specs.Choice.{if◌then◌else◌}
+use Rattle.std.specs.Prelude.{ℕ, ◌+◌, ◌*◌, not, List, ◌∷◌, ◌++◌, map, ltb, eqb, get_or, length, drop, if◌then◌else◌}
 use Rattle.basics.specs.Number.{two, whole_two}
 use Rattle.basics.specs.Parts.{part, cut, joined}
 use Rattle.setup.specs.Setup.{slots, blank_setup, in_range}

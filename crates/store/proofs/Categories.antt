@@ -1,12 +1,12 @@
 -- Packets by category: a packet is of its own category and of no other, and the count of some packets is their header units.
 -- Assumes nothing.
+use Rattle.std.specs.Prelude.{if◌then◌else◌}
 use Prim.Native.Nat.{ℕ}
 use mathlib.Core.Path.{◌≡◌, refl, sym, ◌∙◌}
 use mathlib.Core.Bool.{true}
 use mathlib.Core.List.{List}
 use borrow.Author.Tests.{eq-eqb}
 use lib.ListN.{length}
-use Rattle.basics.specs.Choice.{if◌then◌else◌}
 use Rattle.basics.specs.Lists.{total}
 use Rattle.basics.proofs.Filters.{length-total, total-filter}
 use Rattle.packets.specs.declared.Packet.{Packet}

@@ -1,8 +1,7 @@
 -- A bounded list of packets, oldest first: what it holds, one more, some taken out, and those of a category.
 -- Assumes nothing.
-use Rattle.std.specs.Prelude.{ℕ, ◌+◌, ◌-◌, Bool, ◌&&◌, List, leb, ltb, take, drop, set, get_or, replicate}
+use Rattle.std.specs.Prelude.{ℕ, ◌+◌, ◌-◌, Bool, ◌&&◌, List, leb, ltb, take, drop, set, get_or, replicate, if◌then◌else◌}
 use Rattle.std.proofs.Math.Seq.{paste}
-use Rattle.basics.specs.Choice.{if◌then◌else◌}
 use Rattle.basics.specs.Lists.{filter}
 use Rattle.packets.specs.declared.Packet.{Packet}
 use Rattle.packets.specs.declared.Category.{Category}

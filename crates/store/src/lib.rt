@@ -2,8 +2,7 @@
 // Assumes nothing: every function takes all values, also a length past the end.
 #![tactic(auto)]
 
-ghost use Rattle.std.specs.Prelude.{◌≡◌, ◌≤◌, ◌+◌, length};
-ghost use Rattle.basics.specs.Choice.{if◌then◌else◌};
+ghost use Rattle.std.specs.Prelude.{◌≡◌, ◌≤◌, ◌+◌, length, if◌then◌else◌};
 ghost use Rattle.basics.specs.Lists.{find};
 ghost use Rattle.packets.specs.Packets.{data_together};
 ghost use Rattle.store.specs.Store.{no_packet, empty, held, at, pushed, without, removed, released, is_of, of_category};

@@ -1,7 +1,6 @@
 -- The frames of one direction on the line forth and on the line back, in true numbers. The frames of the other direction are passed over.
 -- Assumes nothing.
-use Rattle.std.specs.Prelude.{ℕ, suc, ◌+◌, ◌%◌, ◌≤◌, ◌<◌, max, List, [], ◌∷◌, eqb, length, get_or}
-use Rattle.basics.specs.Choice.{if◌then◌else◌}
+use Rattle.std.specs.Prelude.{ℕ, suc, ◌+◌, ◌%◌, ◌≤◌, ◌<◌, max, List, [], ◌∷◌, eqb, length, get_or, if◌then◌else◌}
 use Rattle.counters.specs.declared.Counts.{Counts}
 use Rattle.counters.specs.declared.Seq.{Seq}
 use Rattle.counters.specs.Counters.{seq}

@@ -1,5 +1,6 @@
 -- Submit refuses, or the packet joins its channel's send queue: what each of its tests says.
 -- Assumes nothing.
+use Rattle.std.specs.Prelude.{if◌then◌else◌}
 use Prim.Native.Nat.{ℕ, ◌≤◌, ◌<◌}
 use mathlib.Core.Path.{◌≡◌, refl}
 use mathlib.Core.Bool.{Bool, true, false, ◌&&◌, ◌||◌, not}
@@ -8,7 +9,7 @@ use native.Mathlib.Omega.{arith}
 use borrow.Author.Tests.{ltb-false, leb-false, eqb-true, eqb-false}
 use lib.Dec.{leb, ltb, eqb}
 use lib.ListN.{length}
-use Rattle.basics.specs.Choice.{if◌then◌else◌, first_of}
+use Rattle.basics.specs.Choice.{first_of}
 use Rattle.basics.proofs.Branches.{by_test, first_zero}
 use Rattle.packets.specs.declared.Packet.{Packet}
 use Rattle.packets.specs.Packets.{number_of, category_of, data_units, rule_of, kind_answer, class_answer, length_answer, packet_answer}

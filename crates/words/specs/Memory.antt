@@ -1,7 +1,6 @@
 -- A pair in memory that is lent as words: where each part of it stands, and what the words mean. The setups of the two ends never change
 -- and are kept beside it. Assumes nothing: words that are missing count as 0.
-use Rattle.std.specs.Prelude.{ℕ, ◌+◌, ◌*◌, ◌%◌, Bool, not, List, [], ◌∷◌, map, eqb, take, get_or}
-use Rattle.basics.specs.Choice.{if◌then◌else◌}
+use Rattle.std.specs.Prelude.{ℕ, ◌+◌, ◌*◌, ◌%◌, Bool, not, List, [], ◌∷◌, map, eqb, take, get_or, if◌then◌else◌}
 use Rattle.basics.specs.Parts.{part, cut}
 use Rattle.basics.specs.declared.Found.{Found}
 use Rattle.basics.specs.declared.Found.TheVariants.{At, Nothing}

@@ -18,8 +18,7 @@ loop-i-init c = (omega arith, refl)
 
 pub loop-i-preserved : goal.loop-i-preserved
 loop-i-preserved c =
-    let long : length (turned c.args.units) ≡ 24 = rw (length-append, length-drop, length-take) (omega arith) in
-    (
+    let long : length (turned c.args.units) ≡ 24 = rw (length-append, length-drop, length-take) (omega arith) in (
       omega arith,
       let more : take (c.loop-i.i + 1) (turned c.args.units) ≡ take c.loop-i.i (turned c.args.units) ++ (get_or (turned c.args.units) c.loop-i.i no_units ∷ []) = rw (add-one c.loop-i.i) (take-suc (turned c.args.units) c.loop-i.i no_units (omega (arith, long))) in
           rw (c.loop-i.invariant.1, c.turned_at.ensures, more)

@@ -17,8 +17,7 @@ loop-i-init c = (omega arith, refl)
 
 pub loop-i-preserved : goal.loop-i-preserved
 loop-i-preserved c =
-    let long : length c.args.link.units ≡ 24 = search rules in
-    (
+    let long : length c.args.link.units ≡ 24 = search rules in (
       omega arith,
       rw (c.loop-i.invariant.1, c.room_for.ensures, made_more room_for c.args.link.units c.loop-i.i no_units (omega (arith, long)))
           (filled-set c.loop-i.i (map room_for (take c.loop-i.i c.args.link.units)) _ (length_made room_for c.args.link.units c.loop-i.i (omega (arith, long))) (room_for (get_or c.args.link.units c.loop-i.i no_units)) (room_of none) (omega arith)),

@@ -24,11 +24,11 @@ unfolding chosen
 returns-then-lets c =
     -- the packet of the code is the list's at i, and the code's test of it is the definition's
     let read : get_or (packets_in c.args.q.now).items c.loop-i.i no_packet ≡ c.packet_in-p.result =
-      item_is c.args.q.now c.requires.0 c.loop-i.i (omega (arith, c.size-n.ensures.upper_bound)) ∙ sym c.packet_in-p.ensures in
+    item_is c.args.q.now c.requires.0 c.loop-i.i (omega (arith, c.size-n.ensures.upper_bound)) ∙ sym c.packet_in-p.ensures in
     let tested : eligible (map credit_in c.args.k.now) (take c.loop-i.i (held (packets_in c.args.q.now))) (get_or (packets_in c.args.q.now).items c.loop-i.i no_packet) ≡ c.lets.result =
-      rw read (sym (c.lets.ensures
-      ∙ rw (c.loop-i.invariant.1, c.credit_for.ensures, c.category-c.ensures)
-      (lets-eligible (map credit_in c.args.k.now) (take c.loop-i.i (held (packets_in c.args.q.now))) _))) in
+    rw read (sym (c.lets.ensures
+    ∙ rw (c.loop-i.invariant.1, c.credit_for.ensures, c.category-c.ensures)
+    (lets-eligible (map credit_in c.args.k.now) (take c.loop-i.i (held (packets_in c.args.q.now))) _))) in
     let q = packets_in c.args.q.now in
     sym (c.loop-i.invariant.2
     ∙ find_after-here q.items q.len c.loop-i.i no_packet (omega (arith, c.size-n.ensures.value)) (eligible (map credit_in c.args.k.now)) (tested ∙ c.if-lets.true))
@@ -37,11 +37,11 @@ pub loop-i-preserved : goal.loop-i-preserved
 loop-i-preserved c =
     -- the packet of the code is the list's at i, and the code's test of it is the definition's
     let read : get_or (packets_in c.args.q.now).items c.loop-i.i no_packet ≡ c.packet_in-p.result =
-      item_is c.args.q.now c.requires.0 c.loop-i.i (omega (arith, c.size-n.ensures.upper_bound)) ∙ sym c.packet_in-p.ensures in
+    item_is c.args.q.now c.requires.0 c.loop-i.i (omega (arith, c.size-n.ensures.upper_bound)) ∙ sym c.packet_in-p.ensures in
     let tested : eligible (map credit_in c.args.k.now) (take c.loop-i.i (held (packets_in c.args.q.now))) (get_or (packets_in c.args.q.now).items c.loop-i.i no_packet) ≡ c.lets.result =
-      rw read (sym (c.lets.ensures
-      ∙ rw (c.loop-i.invariant.1, c.credit_for.ensures, c.category-c.ensures)
-      (lets-eligible (map credit_in c.args.k.now) (take c.loop-i.i (held (packets_in c.args.q.now))) _))) in
+    rw read (sym (c.lets.ensures
+    ∙ rw (c.loop-i.invariant.1, c.credit_for.ensures, c.category-c.ensures)
+    (lets-eligible (map credit_in c.args.k.now) (take c.loop-i.i (held (packets_in c.args.q.now))) _))) in
     let q = packets_in c.args.q.now in
     let h : c.loop-i.i < length (held (packets_in c.args.q.now)) = omega (arith, c.size-n.ensures.value) in (
       omega arith,

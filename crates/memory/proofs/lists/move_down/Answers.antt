@@ -14,13 +14,12 @@ loop-k-init c =
     (omega arith, omega arith, refl, rw e (moved_none c.args.q.now c.args.a c.args.b))
 
 pub loop-k-preserved : goal.loop-k-preserved
-loop-k-preserved c =
-    (
-      omega arith,
-      omega arith,
-      length-set c.loop-k.q _ _ ∙ c.loop-k.invariant.2,
-      moved_one c.args.q.now c.loop-k.q c.args.a c.args.b c.loop-k.k 0 c.requires.0 c.loop-k.invariant.0 (omega arith) c.loop-k.invariant.3,
-    )
+loop-k-preserved c = (
+  omega arith,
+  omega arith,
+  length-set c.loop-k.q _ _ ∙ c.loop-k.invariant.2,
+  moved_one c.args.q.now c.loop-k.q c.args.a c.args.b c.loop-k.k 0 c.requires.0 c.loop-k.invariant.0 (omega arith) c.loop-k.invariant.3,
+)
 
 pub returns : goal.returns
 returns c =

@@ -16,7 +16,7 @@ pub returns-then-is_of : goal.returns-then-is_of
 returns-then-is_of c =
     -- the code's test of the packet at i is the definition's
     let tested : is_of c.args.c (get_or (packets_in c.args.q.now).items c.loop-i.i no_packet) ≡ c.is_of.result =
-      ap (is_of c.args.c) (item_is c.args.q.now c.requires c.loop-i.i (omega (arith, c.size-n.ensures.upper_bound))) ∙ sym c.is_of.ensures in
+    ap (is_of c.args.c) (item_is c.args.q.now c.requires c.loop-i.i (omega (arith, c.size-n.ensures.upper_bound))) ∙ sym c.is_of.ensures in
     let q = packets_in c.args.q.now in
     sym (c.loop-i.invariant.1
     ∙ find-here q.items q.len c.loop-i.i no_packet (omega (arith, c.size-n.ensures.value)) (is_of c.args.c) (tested ∙ c.if-is_of.true))
@@ -25,7 +25,7 @@ pub loop-i-preserved : goal.loop-i-preserved
 loop-i-preserved c =
     -- the code's test of the packet at i is the definition's
     let tested : is_of c.args.c (get_or (packets_in c.args.q.now).items c.loop-i.i no_packet) ≡ c.is_of.result =
-      ap (is_of c.args.c) (item_is c.args.q.now c.requires c.loop-i.i (omega (arith, c.size-n.ensures.upper_bound))) ∙ sym c.is_of.ensures in
+    ap (is_of c.args.c) (item_is c.args.q.now c.requires c.loop-i.i (omega (arith, c.size-n.ensures.upper_bound))) ∙ sym c.is_of.ensures in
     let q = packets_in c.args.q.now in (
       omega arith,
       c.loop-i.invariant.1

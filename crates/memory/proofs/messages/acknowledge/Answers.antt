@@ -26,9 +26,12 @@ returns c =
     (c.release.ensures.q_after ∙ ap (λ (q : Packets). released q c.sub-k.result.0) (buffer_read c.args.s.now l)) in
     let t = put_mid buffer_at list_words c.args.s.now c.release.new.q in
     let stored = acked-back t freed.1 c.args.number (omega (arith, c.well_formed)) in
-    let shifted = replay-back (set t acked_at c.args.number.0) stored.1 c.write_replay.new.x _ c.write_replay.ensures.x_len c.write_replay.ensures.x_after in record { s_after = acknowledged-steps _ c.args.number _ _ _ c.sub-k.result.0 c.moved-at.result c.replay-running.result c.replay-running.ensures
+    let shifted = replay-back (set t acked_at c.args.number.0) stored.1 c.write_replay.new.x _ c.write_replay.ensures.x_len c.write_replay.ensures.x_after in record {
+      s_after = acknowledged-steps _ c.args.number _ _ _ c.sub-k.result.0 c.moved-at.result c.replay-running.result c.replay-running.ensures
           (releases-read c.args.s.now l c.args.number _ _ c.seq_in.ensures c.sub-k.ensures)
           freed.0
           (c.moved-at.ensures ∙ ap (λ n. moved c.sub-k.result.0 n c.replay-running.result.at) (out_is t freed.1))
           stored.0
-          shifted.0; s_len = shifted.1 }
+          shifted.0;
+      s_len = shifted.1;
+    }

@@ -15,10 +15,18 @@ returns-then-ack_answer-ne0 c =
 
 pub returns-then-nak : goal.returns-then-nak
 returns-then-nak c =
-    let l : length c.args.s.now ≡ sender_words = omega arith in record { value = answered-nak _ c.args.number c.args.nak c.ack_answer.result (answer-read c.args.s.now l c.args.number _ _ c.seq_in.ensures c.ack_answer.ensures) c.if-ack_answer-ne0.false
-          _ c.acknowledge.ensures.s_after _ c.if-nak.true c.again.ensures.s_after; s_len = c.again.ensures.s_len; keeps = made }
+    let l : length c.args.s.now ≡ sender_words = omega arith in record {
+      value = answered-nak _ c.args.number c.args.nak c.ack_answer.result (answer-read c.args.s.now l c.args.number _ _ c.seq_in.ensures c.ack_answer.ensures) c.if-ack_answer-ne0.false
+          _ c.acknowledge.ensures.s_after _ c.if-nak.true c.again.ensures.s_after;
+      s_len = c.again.ensures.s_len;
+      keeps = made;
+    }
 
 pub returns : goal.returns
 returns c =
-    let l : length c.args.s.now ≡ sender_words = omega arith in record { value = answered-ack _ c.args.number c.args.nak c.ack_answer.result (answer-read c.args.s.now l c.args.number _ _ c.seq_in.ensures c.ack_answer.ensures) c.if-ack_answer-ne0.false
-          _ c.acknowledge.ensures.s_after c.if-nak.false; s_len = c.acknowledge.ensures.s_len; keeps = made }
+    let l : length c.args.s.now ≡ sender_words = omega arith in record {
+      value = answered-ack _ c.args.number c.args.nak c.ack_answer.result (answer-read c.args.s.now l c.args.number _ _ c.seq_in.ensures c.ack_answer.ensures) c.if-ack_answer-ne0.false
+          _ c.acknowledge.ensures.s_after c.if-nak.false;
+      s_len = c.acknowledge.ensures.s_len;
+      keeps = made;
+    }

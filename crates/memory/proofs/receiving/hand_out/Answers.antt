@@ -7,8 +7,11 @@ use Rattle.memory.proofs.receiving.hand_out.Goals as goal
 
 pub returns : goal.returns
 returns c =
-    record { result_value = (
+    record {
+      result_value = (
         c.word_at-w.ensures,
         handed_all (receiver_in c.args.r.now) _ _ c.args.channel _ c.args.place c.args.c _ _ _ _ c.remove.ensures.r_after c.put_room.ensures.r_after c.slot_of-slot.ensures.value
             (c.packet_in-p.ensures ∙ c.word_at-w.ensures) (c.room_in.ensures ∙ c.room.ensures) c.need.ensures c.give_back-grown.ensures,
-      ); r_len = c.put_room.ensures.r_len }
+      );
+      r_len = c.put_room.ensures.r_len;
+    }

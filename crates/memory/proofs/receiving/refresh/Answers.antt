@@ -9,13 +9,12 @@ use Rattle.memory.proofs.ReceivingLaws.{length_rooms, marking_all, mark_turn, ma
 use Rattle.memory.proofs.receiving.refresh.Goals as goal
 
 pub loop-i-preserved : goal.loop-i-preserved
-loop-i-preserved c =
-    (
-      omega arith,
-      let t : c.loop-i.i < 3 * c.args.n = c.if-i-used.true in omega arith,
-      set_keeps c.loop-i.r c.loop-i.invariant.2 (196 + c.loop-i.i) _,
-      mark_turn (receiver_in c.args.r.now) (length_rooms c.args.r.now c.requires) c.loop-i.r c.loop-i.invariant.2 c.loop-i.i _ (omega arith) c.loop-i.invariant.3 c.marked_word.ensures,
-    )
+loop-i-preserved c = (
+  omega arith,
+  let t : c.loop-i.i < 3 * c.args.n = c.if-i-used.true in omega arith,
+  set_keeps c.loop-i.r c.loop-i.invariant.2 (196 + c.loop-i.i) _,
+  mark_turn (receiver_in c.args.r.now) (length_rooms c.args.r.now c.requires) c.loop-i.r c.loop-i.invariant.2 c.loop-i.i _ (omega arith) c.loop-i.invariant.3 c.marked_word.ensures,
+)
 
 pub returns-else-i-used : goal.returns-else-i-used
 returns-else-i-used c =

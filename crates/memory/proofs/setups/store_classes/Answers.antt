@@ -11,8 +11,7 @@ use Rattle.memory.proofs.setups.store_classes.Goals as goal
 
 pub loop-i-preserved : goal.loop-i-preserved
 loop-i-preserved c =
-    let long : length c.args.classes ≡ 7 = search rules in
-    (
+    let long : length c.args.classes ≡ 7 = search rules in (
       omega arith,
       length-set c.loop-i.x c.loop-i.i c.class_word.result ∙ c.loop-i.invariant.1,
       word-stored class_in c.loop-i.x c.args.classes c.loop-i.i c.loop-i.invariant.2 _ _ c.class_word.ensures (omega arith) (omega (arith, long)),

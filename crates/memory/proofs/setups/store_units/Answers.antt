@@ -12,8 +12,7 @@ use Rattle.memory.proofs.setups.store_units.Goals as goal
 
 pub loop-i-preserved : goal.loop-i-preserved
 loop-i-preserved c =
-    let long : length c.args.units ≡ slots = search rules in
-    (
+    let long : length c.args.units ≡ slots = search rules in (
       omega arith,
       length-set c.loop-i.x c.loop-i.i c.units_word.result ∙ c.loop-i.invariant.1,
       word-stored units_in c.loop-i.x c.args.units c.loop-i.i c.loop-i.invariant.2 _ _ c.units_word.ensures (omega arith) (omega (arith, long)),

@@ -12,8 +12,7 @@ use Rattle.memory.proofs.stores.store_credits.Goals as goal
 
 pub loop-i-preserved : goal.loop-i-preserved
 loop-i-preserved c =
-    let long : length c.args.credits ≡ per_end = search rules in
-    (
+    let long : length c.args.credits ≡ per_end = search rules in (
       omega arith,
       length-set c.loop-i.x c.loop-i.i c.credit_word.result ∙ c.loop-i.invariant.1,
       word-stored credit_in c.loop-i.x c.args.credits c.loop-i.i c.loop-i.invariant.2 _ _ c.credit_word.ensures.result_value (omega arith) (omega (arith, long)),

@@ -17,8 +17,7 @@ loop-i-init c = (omega arith, omega arith, refl)
 
 pub loop-i-preserved : goal.loop-i-preserved
 loop-i-preserved c =
-    let long : length c.args.x.slots ≡ line_places = search rules in
-    (
+    let long : length c.args.x.slots ≡ line_places = search rules in (
       omega arith,
       simp length-set c.loop-i.invariant.1,
       slot-stored c.loop-i.l c.args.x.slots c.loop-i.i c.loop-i.invariant.2 _ _ c.frame_words-w.ensures.rest_value (omega arith) (omega (arith, long)),

@@ -12,8 +12,7 @@ use Rattle.memory.proofs.stores.store_packets.Goals as goal
 
 pub loop-i-preserved : goal.loop-i-preserved
 loop-i-preserved c =
-    let long : length c.args.p.items ≡ places = search rules in
-    (
+    let long : length c.args.p.items ≡ places = search rules in (
       omega arith,
       length-set c.loop-i.q c.loop-i.i c.packet_word.result ∙ c.loop-i.invariant.1,
       word-stored packet_in c.loop-i.q c.args.p.items c.loop-i.i c.loop-i.invariant.2 _ _ c.packet_word.ensures.result_value (omega arith) (omega (arith, long)),

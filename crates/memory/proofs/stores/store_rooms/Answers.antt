@@ -12,8 +12,7 @@ use Rattle.memory.proofs.stores.store_rooms.Goals as goal
 
 pub loop-i-preserved : goal.loop-i-preserved
 loop-i-preserved c =
-    let long : length c.args.rooms ≡ per_end = search rules in
-    (
+    let long : length c.args.rooms ≡ per_end = search rules in (
       omega arith,
       length-set c.loop-i.x c.loop-i.i c.room_word.result ∙ c.loop-i.invariant.1,
       word-stored room_in c.loop-i.x c.args.rooms c.loop-i.i c.loop-i.invariant.2 _ _ c.room_word.ensures.result_value (omega arith) (omega (arith, long)),

@@ -24,8 +24,7 @@ loop-i-init c = (omega arith, omega arith, refl)
 
 pub loop-i-preserved : goal.loop-i-preserved
 loop-i-preserved c =
-    let long : length c.args.self.rooms ≡ 12 = search rules in
-    (
+    let long : length c.args.self.rooms ≡ 12 = search rules in (
       omega arith,
       let t : c.loop-i.i < 3 * c.args.n = c.if-i-used.true in omega arith,
       rw (c.loop-i.invariant.2, c.mark-room.ensures)

@@ -15,12 +15,11 @@ returns-then-is_of c =
     ∙ find-here c.args.self.items c.args.self.len c.loop-i.i _ (omega (arith, c.size-n.ensures.value)) (is_of c.args.c) (sym c.is_of.ensures ∙ c.if-is_of.true))
 
 pub loop-i-preserved : goal.loop-i-preserved
-loop-i-preserved c =
-    (
-      omega arith,
-      c.loop-i.invariant.1
-          ∙ find-next c.args.self.items c.args.self.len c.loop-i.i _ (omega (arith, c.size-n.ensures.value)) (is_of c.args.c) (sym c.is_of.ensures ∙ c.if-is_of.false),
-    )
+loop-i-preserved c = (
+  omega arith,
+  c.loop-i.invariant.1
+      ∙ find-next c.args.self.items c.args.self.len c.loop-i.i _ (omega (arith, c.size-n.ensures.value)) (is_of c.args.c) (sym c.is_of.ensures ∙ c.if-is_of.false),
+)
 
 pub returns : goal.returns
 returns c =
