@@ -89,25 +89,25 @@ first_at f w (suc n) l (suc i) h k =
 
 -- A walk over the parts of a list that looks for the first that fails: what it will find, once it is at part i.
 module _ {A : Type 0} (f : List A → Bool) (w : ℕ) (l : List A) (n : ℕ) where
-  abbrev pub firstFrom : ℕ → ℕ
-  firstFrom i = i + first_not f (cut w (n - i) (drop (w * i) l))
+  abbrev pub first_from : ℕ → ℕ
+  first_from i = i + first_not f (cut w (n - i) (drop (w * i) l))
 
-  pub first_start : firstFrom 0 ≡ first_not f (cut w n l)
+  pub first_start : first_from 0 ≡ first_not f (cut w n l)
   first_start = let e : n - 0 ≡ n = omega arith in rw (e, mul-zero) (omega arith)
 
   open_at : (i : ℕ) → i < n
-      → firstFrom i ≡ i + (if f (part l (w * i) w) then suc (first_not f (cut w (n - (i + 1)) (drop (w * (i + 1)) l))) else 0)
+      → first_from i ≡ i + (if f (part l (w * i) w) then suc (first_not f (cut w (n - (i + 1)) (drop (w * (i + 1)) l))) else 0)
   unfolding cut first_not
   open_at i h =
       let e : n - i ≡ suc (n - (i + 1)) = omega arith in
       rw (e, drop-drop, add-one i, mul-suc)
 
-  pub first_next : (i : ℕ) → i < n → f (part l (w * i) w) ≡ true → firstFrom i ≡ firstFrom (i + 1)
+  pub first_next : (i : ℕ) → i < n → f (part l (w * i) w) ≡ true → first_from i ≡ first_from (i + 1)
   first_next i h t = open_at i h ∙ rw t (omega arith)
 
-  pub first_here : (i : ℕ) → i < n → f (part l (w * i) w) ≡ false → firstFrom i ≡ i
+  pub first_here : (i : ℕ) → i < n → f (part l (w * i) w) ≡ false → first_from i ≡ i
   first_here i h t = open_at i h ∙ rw t (omega arith)
 
-  pub first_end : firstFrom n ≡ n
+  pub first_end : first_from n ≡ n
   unfolding cut first_not
   first_end = let e : n - n ≡ 0 = omega arith in rw e (omega arith)

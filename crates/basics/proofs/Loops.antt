@@ -11,7 +11,7 @@ use Rattle.basics.specs.Lists.{all}
 use Rattle.basics.specs.Each.{each}
 use Rattle.basics.proofs.Branches.{and_assoc, and-true}
 use Rattle.basics.proofs.Each.{each_more}
-use Rattle.basics.proofs.Places.{get_d_any}
+use Rattle.basics.proofs.Places.{get_or_any}
 use Rattle.basics.proofs.Walk.{all-next, all_end}
 
 module _ {fit here r : Bool} (more : r ≡ (fit && here)) where
@@ -23,7 +23,7 @@ module _ {fit here r : Bool} (more : r ≡ (fit && here)) where
   -- over the elements of an array
   pub each_element : {A : Type 0} (f : ℕ → A → Bool) (xs : List A) (i : ℕ) (d e : A) → i < length xs
       → fit ≡ each i (λ k. f k (get_or xs k e)) → here ≡ f i (get_or xs i d) → r ≡ each (i + 1) (λ k. f k (get_or xs k e))
-  each_element f xs i d e l h k = each_both i (λ k. f k (get_or xs k e)) h (k ∙ ap (f i) (get_d_any xs i d e l))
+  each_element f xs i d e l h k = each_both i (λ k. f k (get_or xs k e)) h (k ∙ ap (f i) (get_or_any xs i d e l))
 
 -- ---- over the list that is kept in the first n places of an array: what held so far, and what is left
 

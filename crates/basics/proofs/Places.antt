@@ -8,10 +8,10 @@ use lib.ListN.{length, get_or, set, replicate}
 
 module _ {A : Type 0} where
   -- below the end it does not matter what would stand past it
-  pub get_d_any : (l : List A) (i : ℕ) (d e : A) → i < length l → get_or l i d ≡ get_or l i e
-  get_d_any [] i d e h = absurd (not-suc-le-zero h)
-  get_d_any (x ∷ xs) zero d e h = refl
-  get_d_any (x ∷ xs) (suc i) d e h = get_d_any xs i d e (le_of_suc-le-suc h)
+  pub get_or_any : (l : List A) (i : ℕ) (d e : A) → i < length l → get_or l i d ≡ get_or l i e
+  get_or_any [] i d e h = absurd (not-suc-le-zero h)
+  get_or_any (x ∷ xs) zero d e h = refl
+  get_or_any (x ∷ xs) (suc i) d e h = get_or_any xs i d e (le_of_suc-le-suc h)
 
   -- a store past the end changes nothing
   pub set_past : (l : List A) (i : ℕ) (a : A) → length l ≤ i → set l i a ≡ l

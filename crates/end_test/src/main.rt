@@ -276,7 +276,7 @@ fn run(rt: &impl Print, text: &[u8]) -> io::Result<()> {
     let mut e = started(1);
     let mut at = 0;
     while at < text.len() {
-        let c = cases::read(rt, text, at)?;
+        let c = cases::read(rt, text, at);
         e = done(rt, e, c)?;
         cases::end_line(rt)?;
         at = c.next;

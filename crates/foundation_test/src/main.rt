@@ -127,7 +127,7 @@ fn done(rt: &impl Print, c: Case) -> io::Result<()> {
 fn lines(rt: &impl Print, text: &[u8]) -> io::Result<()> {
     let mut at = 0;
     while at < text.len() {
-        let c = cases::read(rt, text, at)?;
+        let c = cases::read(rt, text, at);
         done(rt, c)?;
         cases::end_line(rt)?;
         at = c.next;

@@ -12,7 +12,7 @@ use lib.Dec.{eqb}
 use lib.ListN.{length, get_or, take, drop, set, length-set}
 use lib.Seq.{take-take, get_or-set_same}
 use Rattle.basics.specs.Parts.{part}
-use Rattle.basics.proofs.Places.{get_d_any}
+use Rattle.basics.proofs.Places.{get_or_any}
 use Rattle.frames.specs.declared.Frame.{Frame}
 use Rattle.setup.specs.declared.Found.{Found}
 use Rattle.setup.specs.declared.Setup.{Setup}
@@ -228,7 +228,7 @@ hosted_stored m long e xs ys h k =
 
 pub started-is : (l : Setup) (p : Paired) → p ≡ start_of l → (i : ℕ) (d : End) → i ≤ 1 → get_or p.pair.ends i d ≡ end_at (start_of l).pair i
 unfolding start_of pair_of
-started-is l p e i d h = rw e (get_d_any (start_of l).pair.ends i d (end_of blank_setup) (omega (arith, ends (in_range l))))
+started-is l p e i d h = rw e (get_or_any (start_of l).pair.ends i d (end_of blank_setup) (omega (arith, ends (in_range l))))
   where
     made : Setup → ℕ → Paired
     made s answer = record { pair = pair_of s; answer = answer }

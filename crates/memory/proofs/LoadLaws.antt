@@ -12,7 +12,7 @@ use lib.Seq.{take-length, drop-length, drop-nil, length-take-le}
 use Rattle.basics.specs.Parts.{part, cut}
 use Rattle.basics.proofs.Parts.{filled, filled-set, filled_whole, length-read, read_more}
 use Rattle.basics.proofs.Maps.{length_made, made_more}
-use Rattle.basics.proofs.Places.{get_d_any}
+use Rattle.basics.proofs.Places.{get_or_any}
 use Rattle.counters.specs.declared.Seq.{Seq}
 use Rattle.credits.specs.declared.Credit.{Credit}
 use Rattle.credits.specs.declared.Room.{Room}
@@ -95,4 +95,4 @@ pub pair_read : (links : List Setup) (m : List ℕ) (d : Setup) (none : Pair) �
     → pair (a ∷ b ∷ []) (k ∷ l ∷ []) ≡ (if eqb (length m) pair_words then pair_in links m else none)
 unfolding pair_in
 pair_read links m d none two long a b k l ea eb ek el =
-    rw (eq-eqb (length m) pair_words long, ea, eb, ek, el, get_d_any links 0 d blank_setup (omega arith), get_d_any links 1 d blank_setup (omega arith))
+    rw (eq-eqb (length m) pair_words long, ea, eb, ek, el, get_or_any links 0 d blank_setup (omega arith), get_or_any links 1 d blank_setup (omega arith))

@@ -12,7 +12,7 @@ use lib.ListN.{length, get_or, take, drop, set, length-set}
 use lib.Seq.{take-suc, take-suc-set, take-set-le, get_or-set_same}
 use Rattle.basics.specs.Parts.{cut}
 use Rattle.basics.proofs.Parts.{read_more, listed, listed_all}
-use Rattle.basics.proofs.Places.{get_d_any}
+use Rattle.basics.proofs.Places.{get_or_any}
 use Rattle.counters.specs.declared.Seq.{Seq}
 use Rattle.counters.specs.Counters.{seq}
 use Rattle.setup.specs.declared.Setup.{Setup}
@@ -31,7 +31,7 @@ use Rattle.pairs.specs.declared.Pair.{Pair}
 use Rattle.pairs.specs.Pairs.{pair, end_at}
 use Rattle.words.specs.Words.{packet_in, credit_in, room_in, seq_in, frame_in}
 use Rattle.words.specs.Memory.{places, list_words, packets_in, lists_in, buffer_at, credits_at, next_at, acked_at, replay_at, sender_words, replay_in, sender_in, rooms_at, reply_at, receiver_words, reply_in, receiver_in, line_places, line_words, slot_in, line_in, end_words, end_in, lines_at, pair_words, pair_in}
-use Rattle.words.proofs.Patched.{patched, back_patched, set_patched, sets_patched, length_patched, part_same, part-after, part-before, get_d_after}
+use Rattle.words.proofs.Patched.{patched, back_patched, set_patched, sets_patched, length_patched, part_same, part-after, part-before, get_or_after}
 use Rattle.words.proofs.Lists.{read-after, lists_same}
 use Rattle.words.proofs.Sending.{put_buffer, put_next, put-acked, put-replay}
 use Rattle.words.proofs.Receiving.{put_reply}
@@ -107,8 +107,8 @@ module _ (s : List ℕ) (long : length s ≡ sender_words) (ys : List ℕ) where
         lists_put s ys e,
         part-after s 0 ys l credits_at per_end (omega arith),
         part-after s 0 ys l buffer_at list_words (omega arith),
-        get_d_after s 0 ys l next_at 0 (omega arith),
-        get_d_after s 0 ys l acked_at 0 (omega arith),
+        get_or_after s 0 ys l next_at 0 (omega arith),
+        get_or_after s 0 ys l acked_at 0 (omega arith),
         part-after s 0 ys l replay_at 4 (omega arith),
       )
 
@@ -122,8 +122,8 @@ module _ (s : List ℕ) (long : length s ≡ sender_words) (ys : List ℕ) where
         lists_same s ys credits_at (omega arith) l,
         part_same s credits_at ys l per_end e,
         part-before s credits_at ys l buffer_at list_words (omega arith),
-        get_d_after s credits_at ys l next_at 0 (omega arith),
-        get_d_after s credits_at ys l acked_at 0 (omega arith),
+        get_or_after s credits_at ys l next_at 0 (omega arith),
+        get_or_after s credits_at ys l acked_at 0 (omega arith),
         part-after s credits_at ys l replay_at 4 (omega arith),
       )
 
@@ -240,8 +240,8 @@ module _ (m : List ℕ) (long : length m ≡ pair_words) (xs ys ks ls : List ℕ
         → Holds (pair_in (setups_of p)) (length m) (backs m xs ys ks ls) (if eqb (length m) pair_words then p else none)
     unfolding pair_in
     pair-stored ex ey ek el =
-        let first : get_or p.ends 0 d ≡ end_at p 0 = get_d_any p.ends 0 d (end_of blank_setup) (omega arith) in
-        let second : get_or p.ends 1 d ≡ end_at p 1 = get_d_any p.ends 1 d (end_of blank_setup) (omega arith) in
+        let first : get_or p.ends 0 d ≡ end_at p 0 = get_or_any p.ends 0 d (end_of blank_setup) (omega arith) in
+        let second : get_or p.ends 1 d ≡ end_at p 1 = get_or_any p.ends 1 d (end_of blank_setup) (omega arith) in
         let ends : end_in (end_at p 0).setup xs ∷ end_in (end_at p 1).setup ys ∷ [] ≡ p.ends
         = rw (rw first at ex, rw second at ey) (two p.ends (end_of blank_setup) he) in
         let lines : line_in ks ∷ line_in ls ∷ [] ≡ p.lines = rw (ek, el) (two p.lines b hl) in

@@ -209,7 +209,7 @@ fn lines(rt: &impl Print, text: &[u8]) -> io::Result<()> {
     let mut r = begun(Setup::blank());
     let mut at = 0;
     while at < text.len() {
-        let c = cases::read(rt, text, at)?;
+        let c = cases::read(rt, text, at);
         r = done(rt, r, c)?;
         cases::end_line(rt)?;
         at = c.next;

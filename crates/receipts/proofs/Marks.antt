@@ -16,7 +16,7 @@ use Rattle.basics.proofs.Branches.{by_test}
 use Rattle.basics.proofs.Each.{by_order_lem}
 use Rattle.basics.proofs.Finds.{found_first, found_nothing}
 use Rattle.basics.proofs.Maps.{length_made}
-use Rattle.basics.proofs.Places.{get_d_any}
+use Rattle.basics.proofs.Places.{get_or_any}
 use Rattle.credits.specs.declared.Room.{Room}
 use Rattle.credits.specs.Credits.{none, room_of, marked, unmarked}
 use Rattle.packets.specs.declared.Category.{Category}
@@ -49,7 +49,7 @@ module _ (r : Receiver) (n : ℕ) where
     room-refreshed h =
         let within : slot < length (map marked (take (3 * n) r.rooms)) = omega (arith, marked-part) in
         get_or-append (map marked (take (3 * n) r.rooms)) (drop (3 * n) r.rooms) (room_of none) slot within
-        ∙ get_d_any (map marked (take (3 * n) r.rooms)) slot (room_of none) (marked (room_of none)) within
+        ∙ get_or_any (map marked (take (3 * n) r.rooms)) slot (room_of none) (marked (room_of none)) within
         ∙ get_or-map marked (take (3 * n) r.rooms) slot (room_of none)
         ∙ ap marked (get_or-take (3 * n) r.rooms slot (room_of none) h)
 

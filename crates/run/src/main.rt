@@ -2,7 +2,7 @@
 // What the lines say is promised by `runs` and `listing`; here bytes are moved. Assumes nothing.
 #![tactic(auto)]
 
-ghost use Rattle.std.specs.Prelude.{◌+◌, ◌≤◌, length, IfOk};
+ghost use Rattle.std.specs.Prelude.{◌+◌, ◌≤◌, length};
 
 use listing::LONGEST;
 use pairs::Pair;
@@ -44,15 +44,14 @@ fn write(rt: &impl Print, out: &[u8], n: usize) -> io::Result<()> {
     Ok(())
 }
 
-// Writes what waits, if a line might not fit behind it, and answers where the next line goes.
-fn made_room(rt: &impl Print, out: &[u8], at: usize) -> io::Result<usize>
-    ensures { IfOk result (λ k. k + 72 ≤ 8192) }
+// Where the next line goes: behind what waits, or at the start if it might not fit there.
+fn made_room(at: usize) -> usize
+    ensures { result + 72 ≤ 8192 }
 {
     if at <= OUT - LONGEST {
-        return Ok(at);
+        return at;
     }
-    write(rt, out, at)?;
-    Ok(0)
+    0
 }
 
 // Writes a line for each step, from its answer and detail.
@@ -62,7 +61,10 @@ fn write_steps(rt: &impl Print, answers: &[u32]) -> io::Result<()> {
     let mut at = listing::header_line(&mut out);
     let mut i = 0;
     while i < count {
-        let k = made_room(rt, &out, at)?;
+        let k = made_room(at);
+        if k < at {
+            write(rt, &out, at)?;
+        }
         let n = listing::step_line(
             &mut out[k..],
             (i % 4294967296) as u32,

@@ -116,14 +116,14 @@ module _ (s : Setup) (ts : List Step) (count : ℕ) (w : List ℕ) (is : length 
   length_both : length (rows ++ setup_bytes s) ≡ 12 * count + setup_length
   length_both = length-append rows (setup_bytes s) ∙ rw (length_records, size)
 
-  abbrev pub withSetup : List ℕ
-  withSetup = filled (12 * count + setup_length) (rows ++ setup_bytes s) w
+  abbrev pub with_setup : List ℕ
+  with_setup = filled (12 * count + setup_length) (rows ++ setup_bytes s) w
 
   pub setup_put : take (12 * count) (filled (12 * count) rows w)
-      ++ (setup_bytes s ++ drop setup_length (drop (12 * count) (filled (12 * count) rows w))) ≡ withSetup
+      ++ (setup_bytes s ++ drop setup_length (drop (12 * count) (filled (12 * count) rows w))) ≡ with_setup
   setup_put = filled_more (12 * count) rows w length_records (setup_bytes s) setup_length
 
-  pub trailer_put : take (12 * count + setup_length) withSetup ++ (trailer_bytes count ++ drop 12 (drop (12 * count + setup_length) withSetup))
+  pub trailer_put : take (12 * count + setup_length) with_setup ++ (trailer_bytes count ++ drop 12 (drop (12 * count + setup_length) with_setup))
       ≡ script_bytes s ts ++ drop (script_length count) w
   unfolding script_bytes
   trailer_put =

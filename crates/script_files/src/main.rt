@@ -125,7 +125,7 @@ fn done(rt: &(impl Print + Env + Files + Eprint), b: &[u8; 236], c: Case) -> io:
 fn lines(rt: &(impl Print + Env + Files + Eprint), b: &[u8; 236], text: &[u8]) -> io::Result<()> {
     let mut at = 0;
     while at < text.len() {
-        let c = cases::read(rt, text, at)?;
+        let c = cases::read(rt, text, at);
         done(rt, b, c)?;
         cases::end_line(rt)?;
         at = c.next;

@@ -108,8 +108,8 @@ module _ {A : Type 0} (m : List A) (a : ℕ) (ys : List A) (h : a ≤ length m) 
       let front : length (take a m) ≡ a = length-take-le a m h in
       get_or-append (take a m) (ys ++ drop (length ys) (drop a m)) d k (omega arith) ∙ get_or-take a m k d b
 
-  pub get_d_after : (k : ℕ) (d : A) → a + length ys ≤ k → get_or (patched m a ys) k d ≡ get_or m k d
-  get_d_after k d b =
+  pub get_or_after : (k : ℕ) (d : A) → a + length ys ≤ k → get_or (patched m a ys) k d ≡ get_or m k d
+  get_or_after k d b =
       let z : k + 0 ≡ k = omega arith in
       rw z at (sym (get_or-drop k (patched m a ys) 0 d) ∙ ap (λ r. get_or r 0 d) (drop-after m a ys k h b) ∙ get_or-drop k m 0 d)
 

@@ -14,7 +14,7 @@ use Rattle.sender.specs.Sender.{sender, queue_at, credit_at, with_queue, with_cr
 use Rattle.sender.specs.Sources.{credits_of}
 use Rattle.words.specs.Words.{credit_in, seq_in}
 use Rattle.words.specs.Memory.{places, list_words, packets_in, buffer_at, credits_at, next_at, acked_at, replay_at, sender_words, replay_in, sender_in}
-use Rattle.words.proofs.Patched.{patched, length_patched, part_same, part-before, part-after, part-set, part-set-before, part-set-after, part-get_or, part_three, length_part, get_or-before, get_d_after, map-set, get_or_mapped}
+use Rattle.words.proofs.Patched.{patched, length_patched, part_same, part-before, part-after, part-set, part-set-before, part-set-after, part-get_or, part_three, length_part, get_or-before, get_or_after, map-set, get_or_mapped}
 use Rattle.words.proofs.Lists.{list-is, put-list, lists_same, lists_set}
 
 module _ (s : List ℕ) (long : length s ≡ sender_words) where
@@ -34,8 +34,8 @@ module _ (s : List ℕ) (long : length s ≡ sender_words) where
         put-list s ys channel h e (omega arith),
         part-after s a ys l credits_at per_end (omega arith),
         part-after s a ys l buffer_at list_words (omega arith),
-        get_d_after s a ys l next_at 0 (omega arith),
-        get_d_after s a ys l acked_at 0 (omega arith),
+        get_or_after s a ys l next_at 0 (omega arith),
+        get_or_after s a ys l acked_at 0 (omega arith),
         part-after s a ys l replay_at 4 (omega arith),
       )
 
@@ -51,8 +51,8 @@ module _ (s : List ℕ) (long : length s ≡ sender_words) where
         lists_same s ys buffer_at (omega arith) l,
         part-after s buffer_at ys l credits_at per_end (omega arith),
         part_same s buffer_at ys l list_words e,
-        get_d_after s buffer_at ys l next_at 0 (omega arith),
-        get_d_after s buffer_at ys l acked_at 0 (omega arith),
+        get_or_after s buffer_at ys l next_at 0 (omega arith),
+        get_or_after s buffer_at ys l acked_at 0 (omega arith),
         part-after s buffer_at ys l replay_at 4 (omega arith),
       )
 

@@ -1,7 +1,7 @@
 -- `runs::will_last` meets its contract: it does not matter what would stand past the second end.
 -- Assumes nothing.
 use Rattle.std.proofs.Common.{◌≡◌, Bool, ◌&&◌, eqb, List, length, get_or, arith, rules}
-use Rattle.basics.proofs.Places.{get_d_any}
+use Rattle.basics.proofs.Places.{get_or_any}
 use Rattle.setup.specs.Setup.{blank_setup}
 use Rattle.ends.specs.declared.End.{End}
 use Rattle.ends.specs.Ends.{end_of}
@@ -11,7 +11,7 @@ use Rattle.runs.proofs.will_last.Goals as goal
 
 any : (b : Bool) (es : List End) (d e : End) → length es ≡ 2
     → (b && eqb (get_or es 0 d).setup.n (get_or es 1 d).setup.n) ≡ (b && eqb (get_or es 0 e).setup.n (get_or es 1 e).setup.n)
-any b es d e h = rw (get_d_any es 0 d e (omega arith), get_d_any es 1 d e (omega arith))
+any b es d e h = rw (get_or_any es 0 d e (omega arith), get_or_any es 1 d e (omega arith))
 
 pub returns : goal.returns
 unfolding will_last

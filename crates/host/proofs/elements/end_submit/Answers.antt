@@ -6,7 +6,7 @@ use Prim.Native.Nat.{ℕ, ◌<◌}
 use mathlib.Core.List.{[]}
 use mathlib.Core.Path.{◌≡◌}
 use lib.ListN.{length}
-use Rattle.basics.proofs.Places.{get_d_any}
+use Rattle.basics.proofs.Places.{get_or_any}
 use Rattle.packets.specs.declared.Packet.{Packet}
 use Rattle.store.specs.Store.{packets, empty}
 use Rattle.setup.specs.Setup.{channels}
@@ -34,5 +34,5 @@ pub returns : goal.returns
 returns c =
     let four : length c.args.e.now.sender.queues ≡ channels = search rules in
     let place = queue_in c.args.e.now.setup c.args.p in
-    let queue = get_d_any c.args.e.now.sender.queues (queue_for c.args.e.now.setup c.args.p) (packets [] 0) empty (omega arith) in
+    let queue = get_or_any c.args.e.now.sender.queues (queue_for c.args.e.now.setup c.args.p) (packets [] 0) empty (omega arith) in
     rw (c.joined-r.ensures, c.queue_for-c.ensures, queue) (submits c.args.e.now c.args.p four)

@@ -6,7 +6,7 @@ use Prim.Native.Nat.{ℕ, ◌<◌}
 use mathlib.Core.List.{[]}
 use mathlib.Core.Path.{◌≡◌}
 use lib.ListN.{length}
-use Rattle.basics.proofs.Places.{get_d_any}
+use Rattle.basics.proofs.Places.{get_or_any}
 use Rattle.store.specs.Store.{packets, empty}
 use Rattle.setup.specs.Setup.{channels}
 use Rattle.host.specs.declared.elements.Asked.{Asked}
@@ -50,5 +50,5 @@ returns c =
     let n = c.args.e.now.setup.n in
     let four : length c.args.e.now.receiver.inboxes ≡ channels = search rules in
     let i = inbox_in n c.args.channel c.args.category in
-    let inbox = get_d_any c.args.e.now.receiver.inboxes (asked_of n c.args.channel c.args.category).inbox (packets [] 0) empty (omega arith) in
+    let inbox = get_or_any c.args.e.now.receiver.inboxes (asked_of n c.args.channel c.args.category).inbox (packets [] 0) empty (omega arith) in
     rw (c.handed_out-r.ensures, c.asked_of-a.ensures, inbox) (takes c.args.e.now c.args.channel c.args.category)

@@ -5,13 +5,13 @@ use native.Mathlib.Omega.{arith}
 use mathlib.Core.Path.{◌≡◌}
 use lib.ListN.{length, get_or-eq_default}
 use Rattle.store.specs.Store.{empty}
-use Rattle.basics.proofs.Places.{get_d_any}
+use Rattle.basics.proofs.Places.{get_or_any}
 use Rattle.receiver.proofs.Receiver.inbox.Goals as goal
 
 pub returns-then-channel-lt-CHANNELS : goal.returns-then-channel-lt-CHANNELS
 returns-then-channel-lt-CHANNELS c =
     let long : length c.args.self.inboxes ≡ 4 = search rules in
-    get_d_any c.args.self.inboxes c.args.channel _ empty (omega (arith, long))
+    get_or_any c.args.self.inboxes c.args.channel _ empty (omega (arith, long))
 
 pub returns : goal.returns
 returns c =
