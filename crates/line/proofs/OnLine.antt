@@ -17,7 +17,6 @@ use Rattle.frames.specs.declared.Frame.{Frame}
 use Rattle.line.specs.declared.Slot.{Slot}
 use Rattle.line.specs.declared.Line.{Line}
 use Rattle.line.specs.declared.Front.{Front}
-use Rattle.line.specs.declared.Front.TheVariants as Front
 use Rattle.line.specs.Line.{slot, blank, empty, on_line, is_full, put, front_of, rest_of}
 
 pub on-empty : on_line empty ≡ []

@@ -4,11 +4,9 @@ use Rattle.std.specs.Prelude.{ℕ, ◌+◌, ◌-◌, Bool, ◌&&◌, List, leb, 
 use Rattle.std.proofs.Math.Seq.{paste}
 use Rattle.counters.specs.Counters.{seq}
 use Rattle.frames.specs.declared.Frame.{Frame}
-use Rattle.frames.specs.declared.Frame.TheVariants as Frame
 use Rattle.line.specs.declared.Slot.{Slot}
 use Rattle.line.specs.declared.Line.{Line}
 use Rattle.line.specs.declared.Front.{Front}
-use Rattle.line.specs.declared.Front.TheVariants as Front
 
 abbrev pub capacity : ℕ
 capacity = 16

@@ -1,7 +1,7 @@
 -- Each packet's units are rounded up before they are added: the sum of the words, rounded once, is too little.
 -- Assumes nothing.
 use mathlib.Core.Path.{◌≡◌, refl}
-use mathlib.Core.List.{List, [], ◌∷◌}
+use mathlib.Core.List.{[], ◌∷◌}
 use Prim.Native.Nat.{ℕ}
 use lib.ListN.{replicate}
 use Rattle.packets.specs.declared.Packet.{Packet}

@@ -8,7 +8,6 @@ use Rattle.counters.specs.declared.Counts.{Counts}
 use Rattle.packets.specs.declared.Category.{Category}
 use Rattle.packets.specs.declared.Category.TheVariants.{Posted, NonPosted, Completion}
 use Rattle.packets.specs.declared.Numbered.{Numbered}
-use Rattle.packets.specs.declared.Numbered.TheVariants as Numbered
 use Rattle.packets.specs.declared.Packet.{Packet}
 use Rattle.packets.specs.declared.Rule.{Rule}
 

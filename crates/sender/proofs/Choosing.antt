@@ -26,7 +26,6 @@ use Rattle.choice.proofs.Chosen.{chosen-within, chosen_first, chosen-suffices, c
 use Rattle.setup.specs.Setup.{channels}
 use Rattle.sender.specs.declared.Sender.{Sender}
 use Rattle.sender.specs.declared.New.{New}
-use Rattle.sender.specs.declared.New.TheVariants as New
 use Rattle.sender.specs.Sender.{queue_at, credit_at}
 use Rattle.sender.specs.Sources.{buffer_bound, credits_of, chosen_in, on_found, highest, new_of, new_packet}
 

@@ -1,6 +1,6 @@
 -- The sending half of an end: its state, the start, Submit's change, a replay's start and Timer.
 -- Assumes nothing.
-use Rattle.std.specs.Prelude.{ℕ, ◌+◌, ◌*◌, List, map, ltb, eqb, set, get_or, drop, replicate, if◌then◌else◌}
+use Rattle.std.specs.Prelude.{ℕ, ◌+◌, List, map, ltb, eqb, set, get_or, drop, replicate, if◌then◌else◌}
 use Rattle.basics.specs.declared.Found.{Found}
 use Rattle.basics.specs.declared.Found.TheVariants.{At, Nothing}
 use Rattle.counters.specs.declared.Seq.{Seq}
@@ -10,7 +10,6 @@ use Rattle.counters.specs.Counters.{seq, before_of, retrains, retrain_range}
 use Rattle.credits.specs.declared.Credit.{Credit}
 use Rattle.credits.specs.Credits.{credit_for, none, advertised}
 use Rattle.packets.specs.declared.Packet.{Packet}
-use Rattle.packets.specs.declared.Category.{Category}
 use Rattle.store.specs.declared.Packets.{Packets}
 use Rattle.store.specs.Store.{empty, pushed}
 use Rattle.setup.specs.declared.Setup.{Setup}

@@ -10,13 +10,11 @@ use Rattle.packets.specs.declared.Packet.{Packet}
 use Rattle.packets.specs.declared.Category.TheVariants.{Posted, NonPosted, Completion}
 use Rattle.packets.specs.Packets.{category_of, need_of, slot_of}
 use Rattle.frames.specs.declared.Frame.{Frame}
-use Rattle.frames.specs.declared.Frame.TheVariants as Frame
 use Rattle.store.specs.Store.{held, at, pushed, removed}
 use Rattle.choice.specs.Choice.{chosen}
 use Rattle.setup.specs.Setup.{channels}
 use Rattle.sender.specs.declared.Sender.{Sender}
 use Rattle.sender.specs.declared.New.{New}
-use Rattle.sender.specs.declared.New.TheVariants as New
 use Rattle.sender.specs.Sender.{replay, sender, with_replay, queue_at, credit_at}
 
 -- ---- the next replay packet

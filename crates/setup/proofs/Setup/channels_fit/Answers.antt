@@ -4,7 +4,7 @@ use native.Mathlib.Omega.{arith}
 use mathlib.Core.Path.{◌≡◌, refl, sym, ◌∙◌}
 use Rattle.basics.specs.Each.{each}
 use Rattle.basics.proofs.Each.{each_more}
-use Rattle.setup.specs.Setup.{categories_fit, channels_fit}
+use Rattle.setup.specs.Setup.{channels_fit}
 use Rattle.setup.proofs.Setup.channels_fit.Goals as goal
 
 pub loop-channel-init : goal.loop-channel-init

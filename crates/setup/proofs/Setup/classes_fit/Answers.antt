@@ -4,7 +4,7 @@ use native.Mathlib.Omega.{arith}
 use mathlib.Core.Path.{◌≡◌, refl, sym, ◌∙◌}
 use Rattle.basics.specs.Each.{each}
 use Rattle.basics.proofs.Each.{each_more}
-use Rattle.setup.specs.Setup.{channel_of, classes_fit}
+use Rattle.setup.specs.Setup.{classes_fit}
 use Rattle.setup.proofs.Setup.classes_fit.Goals as goal
 
 pub loop-class-init : goal.loop-class-init
