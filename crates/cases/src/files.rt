@@ -2,28 +2,13 @@
 // Assumes nothing.
 ghost use Rattle.std.specs.Prelude.{◌≤◌, length};
 
+use input::read_full;
 use std::env::Env;
-use std::io::Read;
 use std::rt::Files;
 use std::{fs, io, str};
 
 // The bytes of the buffer that a file or the standard input is read into.
 pub const MOST_BYTES: usize = 65536;
-
-// Reads until the buffer is full, the input ends or a read fails, and answers how many bytes are read.
-pub fn read_full(input: &mut impl Read, buf: &mut [u8]) -> usize
-    ensures { result ≤ length buf.new }
-{
-    let mut done = 0;
-    while done < buf.len() {
-        let n = input.read(&mut buf[done..]).unwrap_or(0);
-        if n == 0 {
-            break;
-        }
-        done += n;
-    }
-    done
-}
 
 // Puts an argument at the start of a buffer and answers its length, 0 where it is missing or longer than the buffer.
 pub fn arg(rt: &impl Env, i: usize, buf: &mut [u8]) -> usize

@@ -8,7 +8,8 @@ mod files;
 ghost use Rattle.std.specs.Prelude.{◌<◌, length};
 
 use basics::both;
-pub use files::{MOST_BYTES, arg, read_full, read_path};
+pub use files::{MOST_BYTES, arg, read_path};
+pub use input::read_full;
 use std::io;
 
 // The first twelve numbers of a line, 0 where it has fewer, and the place behind the line.

@@ -10,7 +10,6 @@ use runs::Run;
 use script::MOST_STEPS;
 use setup::Setup;
 use std::io;
-use std::io::Read;
 
 // The bytes that are read.
 const IN: usize = 65536;
@@ -20,21 +19,6 @@ const OUT: usize = 8192;
 const NUMBERS: usize = 6 * MOST_STEPS;
 // Their answers and details.
 const ANSWERS: usize = 2 * MOST_STEPS;
-
-// Reads until the buffer is full, the input ends or a read fails, and answers how many bytes are read.
-fn read_full(input: &mut impl Read, buf: &mut [u8]) -> usize
-    ensures { result ≤ length buf.new }
-{
-    let mut done = 0;
-    while done < buf.len() {
-        let n = input.read(&mut buf[done..]).unwrap_or(0);
-        if n == 0 {
-            break;
-        }
-        done += n;
-    }
-    done
-}
 
 // Writes the first n bytes.
 fn write(rt: &impl Print, out: &[u8], n: usize) -> io::Result<()> {
@@ -117,7 +101,7 @@ fn numbers_of(count: usize) -> usize
 
 fn main(rt: HostRuntime) -> io::Result<()> {
     let mut bytes = [0u8; IN];
-    let n = read_full(&mut rt.stdin(), &mut bytes);
+    let n = input::read_full(&mut rt.stdin(), &mut bytes);
     let mut numbers = [0u32; NUMBERS];
     let got = script::read_script(&bytes[..n], &mut numbers);
     if got.answer != 0 {

@@ -4,17 +4,28 @@
 use native.Mathlib.Omega.{arith}
 use Prim.Native.Nat.{◌<◌}
 use mathlib.Core.Path.{◌≡◌, refl, sym, ap, ◌∙◌}
-use mathlib.Core.List.{map}
+use mathlib.Core.Bool.{Bool}
+use mathlib.Core.List.{List, map}
 use lib.ListN.{length, take, get_or}
 use Rattle.basics.proofs.Walk.{front_snoc, find_after-here, find_after-next, find_after-end}
 use Rattle.store.specs.Store.{held, no_packet}
-use Rattle.choice.specs.Choice.{eligible, chosen}
-use Rattle.choice.specs.Seen.{seen_in}
+use Rattle.packets.specs.declared.Packet.{Packet}
+use Rattle.packets.specs.declared.Category.{Category}
+use Rattle.packets.specs.Packets.{category_of}
+use Rattle.credits.specs.declared.Credit.{Credit}
+use Rattle.choice.specs.declared.Seen.{Seen}
+use Rattle.choice.specs.Choice.{eligible, chosen, credit_of}
+use Rattle.choice.specs.Seen.{seen_in, may_go}
 use Rattle.choice.proofs.Passed.{seeing_one, lets-eligible}
 use Rattle.words.specs.Words.{credit_in}
 use Rattle.words.specs.Memory.{packets_in}
 use Rattle.memory.proofs.ListsLaws.{item_is}
 use Rattle.memory.proofs.lists.choose.Goals as goal
+
+-- the code's test of a packet is the definition's, where what it asks is what the definition asks of that packet
+tested : (credits : List Credit) (older : List Packet) {item p : Packet} {seen : Seen} {c : Category} {credit : Credit} {x : Bool}
+    → item ≡ p → seen ≡ seen_in older → c ≡ category_of p → credit ≡ credit_of credits c → x ≡ may_go seen c credit p → eligible credits older item ≡ x
+tested credits older {p = p} is passed of own lets = rw is (sym (lets ∙ rw (passed, own, of) (lets-eligible credits older p)))
 
 pub loop-i-init : goal.loop-i-init
 loop-i-init c = (omega arith, c.none-seen.ensures, refl)
@@ -22,33 +33,21 @@ loop-i-init c = (omega arith, c.none-seen.ensures, refl)
 pub returns-then-lets : goal.returns-then-lets
 unfolding chosen
 returns-then-lets c =
-    -- the packet of the code is the list's at i, and the code's test of it is the definition's
-    let read : get_or (packets_in c.args.q.now).items c.loop-i.i no_packet ≡ c.packet_in-p.result =
-    item_is c.args.q.now c.requires.0 c.loop-i.i (omega (arith, c.size-n.ensures.upper_bound)) ∙ sym c.packet_in-p.ensures in
-    let tested : eligible (map credit_in c.args.k.now) (take c.loop-i.i (held (packets_in c.args.q.now))) (get_or (packets_in c.args.q.now).items c.loop-i.i no_packet) ≡ c.lets.result =
-    rw read (sym (c.lets.ensures
-    ∙ rw (c.loop-i.invariant.1, c.credit_for.ensures, c.category-c.ensures)
-    (lets-eligible (map credit_in c.args.k.now) (take c.loop-i.i (held (packets_in c.args.q.now))) _))) in
     let q = packets_in c.args.q.now in
+    let read = item_is c.args.q.now c.requires.0 c.loop-i.i (omega (arith, c.size-n.ensures.upper_bound)) ∙ sym c.packet_in-p.ensures in
     sym (c.loop-i.invariant.2
-    ∙ find_after-here q.items q.len c.loop-i.i no_packet (omega (arith, c.size-n.ensures.value)) (eligible (map credit_in c.args.k.now)) (tested ∙ c.if-lets.true))
+    ∙ find_after-here q.items q.len c.loop-i.i no_packet (omega (arith, c.size-n.ensures.value)) (eligible (map credit_in c.args.k.now)) (tested (map credit_in c.args.k.now) (take c.loop-i.i (held q)) read c.loop-i.invariant.1 c.category-c.ensures c.credit_for.ensures c.lets.ensures ∙ c.if-lets.true))
 
 pub loop-i-preserved : goal.loop-i-preserved
 loop-i-preserved c =
-    -- the packet of the code is the list's at i, and the code's test of it is the definition's
-    let read : get_or (packets_in c.args.q.now).items c.loop-i.i no_packet ≡ c.packet_in-p.result =
-    item_is c.args.q.now c.requires.0 c.loop-i.i (omega (arith, c.size-n.ensures.upper_bound)) ∙ sym c.packet_in-p.ensures in
-    let tested : eligible (map credit_in c.args.k.now) (take c.loop-i.i (held (packets_in c.args.q.now))) (get_or (packets_in c.args.q.now).items c.loop-i.i no_packet) ≡ c.lets.result =
-    rw read (sym (c.lets.ensures
-    ∙ rw (c.loop-i.invariant.1, c.credit_for.ensures, c.category-c.ensures)
-    (lets-eligible (map credit_in c.args.k.now) (take c.loop-i.i (held (packets_in c.args.q.now))) _))) in
     let q = packets_in c.args.q.now in
+    let read = item_is c.args.q.now c.requires.0 c.loop-i.i (omega (arith, c.size-n.ensures.upper_bound)) ∙ sym c.packet_in-p.ensures in
     let h : c.loop-i.i < length (held (packets_in c.args.q.now)) = omega (arith, c.size-n.ensures.value) in (
       omega arith,
       c.with-seen.ensures
           ∙ rw (c.loop-i.invariant.1, c.category-c.ensures, ← read) (seeing_one _ _ ∙ ap seen_in (sym (front_snoc q.items q.len c.loop-i.i no_packet h))),
       c.loop-i.invariant.2
-          ∙ find_after-next q.items q.len c.loop-i.i no_packet h (eligible (map credit_in c.args.k.now)) (tested ∙ c.if-lets.false),
+          ∙ find_after-next q.items q.len c.loop-i.i no_packet h (eligible (map credit_in c.args.k.now)) (tested (map credit_in c.args.k.now) (take c.loop-i.i (held q)) read c.loop-i.invariant.1 c.category-c.ensures c.credit_for.ensures c.lets.ensures ∙ c.if-lets.false),
     )
 
 pub returns : goal.returns

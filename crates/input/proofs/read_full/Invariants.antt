@@ -1,7 +1,7 @@
--- `cases::files::read_full` meets its contract: the buffer's end is not passed. The measure is the room that is left.
+-- `input::read_full` meets its contract: the buffer's end is not passed. The measure is the room that is left.
 -- Assumes nothing.
 use Rattle.std.proofs.Common.{◌-◌, ◌≤◌, length}
-use Rattle.cases.proofs.files.read_full.Given as goal
+use Rattle.input.proofs.read_full.Given as goal
 
 abbrev pub invariant-loop-done : goal.invariant-loop-done
 invariant-loop-done g l = l.done ≤ length l.buf

@@ -1,0 +1,21 @@
+// What a program reads. Assumes nothing.
+#![tactic(auto)]
+
+ghost use Rattle.std.specs.Prelude.{◌≤◌, length};
+
+use std::io::Read;
+
+// Reads until the buffer is full, the input ends or a read fails, and answers how many bytes are read. No promise can say which they are.
+pub fn read_full(input: &mut impl Read, buf: &mut [u8]) -> usize
+    ensures { result ≤ length buf.new }
+{
+    let mut done = 0;
+    while done < buf.len() {
+        let n = input.read(&mut buf[done..]).unwrap_or(0);
+        if n == 0 {
+            break;
+        }
+        done += n;
+    }
+    done
+}
