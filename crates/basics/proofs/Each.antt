@@ -2,12 +2,16 @@
 -- Assumes nothing.
 use Rattle.std.specs.Prelude.{if◌then◌else◌}
 use Prim.Native.Nat.{ℕ, zero, suc, ◌+◌, ◌-◌, ◌*◌, ◌≤◌, ◌<◌}
-use mathlib.Core.Path.{◌≡◌, refl, ap, ◌∙◌}
+use mathlib.Core.Path.{◌≡◌, refl, sym, ap, ◌∙◌}
 use mathlib.Core.Bool.{Bool, true, false, ◌&&◌}
 use mathlib.Core.List.{List, [], ◌∷◌, map}
 use mathlib.Core.Logic.{⊎_elim}
 use native.Mathlib.Nat.{not-suc-le-zero, le_of_suc-le-suc, eq-or-lt_of_le, mul-suc, mul-zero, add_comm}
 use native.Mathlib.Numerals.{add-one}
+use Rattle.std.proofs.Common.{add-zero, zero-add}
+use Rattle.std.specs.List.{list_all, range_with_len}
+use Rattle.std.specs.Option.{MatchOption, unwrap_or}
+use Rattle.std.specs.Prelude.{Option, Some, None}
 use native.Mathlib.Omega.{arith}
 use lib.Dec.{ltb}
 use borrow.Author.Tests.{ltb-true, ltb-false}
@@ -15,7 +19,7 @@ use lib.ListN.{length, take, drop}
 use lib.Seq.{drop-drop}
 use Rattle.basics.specs.Each.{each, first_not}
 use Rattle.basics.specs.Parts.{part, cut}
-use Rattle.basics.proofs.Branches.{and_left, and_right}
+use Rattle.basics.proofs.Branches.{and_assoc, and_left, and_right, and-true}
 
 -- A choice by what a test says, and by the order of two numbers.
 pub by_bool : {X : Type 0} (t : Bool) → (t ≡ true → X) → (t ≡ false → X) → X
@@ -29,6 +33,18 @@ by_order_lem a b f g = by_bool (ltb a b) (λ h. f (ltb-true a b h)) (λ h. g (lt
 pub each_more : (n : ℕ) (f : ℕ → Bool) → each (n + 1) f ≡ (each n f && f n)
 unfolding each
 each_more n f = rw add-one
+
+-- asked in turn, from the first number on
+pub each_range : (n : ℕ) (f : ℕ → Bool) → list_all f (range_with_len 0 n) ≡ each n f
+unfolding each
+each_range zero f = refl
+each_range (suc n) f = last 0 n ∙ rw (each_range n f, zero-add)
+  where
+    last : (a m : ℕ) → list_all f (range_with_len a (suc m)) ≡ (list_all f (range_with_len a m) && f (a + m))
+    last a zero = rw add-zero (and-true (f a))
+    last a (suc m) =
+        let e : a + 1 + m ≡ a + suc m = omega arith in
+        rw (last (a + 1) m, e) (sym (and_assoc (f a) (list_all f (range_with_len (a + 1) m)) (f (a + suc m))))
 
 -- what holds of each holds of any
 pub each_at : (n : ℕ) (f : ℕ → Bool) (i : ℕ) → each n f ≡ true → i < n → f i ≡ true
@@ -111,3 +127,16 @@ module _ {A : Type 0} (f : List A → Bool) (w : ℕ) (l : List A) (n : ℕ) whe
   pub first_end : first_from n ≡ n
   unfolding cut first_not
   first_end = let e : n - n ≡ 0 = omega arith in rw e (omega arith)
+
+  walk : (i : ℕ) → i ≤ n → ((k : ℕ) → k < i → f (part l (w * k) w) ≡ true) → first_from 0 ≡ first_from i
+  walk zero h t = refl
+  walk (suc i) h t =
+      let step : first_from i ≡ first_from (suc i) = rw add-one at (first_next i (omega arith) (t i (omega arith))) in
+      walk i (omega arith) (λ k m. t k (omega arith)) ∙ step
+
+  -- what a search over the parts' indices found
+  pub first_found : (r : Option ℕ) → MatchOption r ((k : ℕ) → 0 ≤ k → k < n → f (part l (w * k) w) ≡ true)
+      (λ i. (0 ≤ i) × (i < n) × (f (part l (w * i) w) ≡ false) × ((k : ℕ) → 0 ≤ k → k < i → f (part l (w * k) w) ≡ true))
+      → unwrap_or r n ≡ first_not f (cut w n l)
+  first_found None h = sym first_end ∙ sym (walk n (omega arith) (λ k m. h k (omega arith) m)) ∙ first_start
+  first_found (Some i) h = sym (first_here i h.1 h.2) ∙ sym (walk i (omega (arith, h.1)) (λ k m. h.3 k (omega arith) m)) ∙ first_start

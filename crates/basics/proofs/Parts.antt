@@ -20,10 +20,6 @@ unfolding joined
 joined-more [] x = append-nil x
 joined-more (y ∷ ys) x = rw (joined-more ys x) (sym (append_assoc y (joined ys) x))
 
--- a row of one more
-pub row_more : {A B : Type 0} (g : B → List A) (ts : List B) (t : B) → joined (map g (ts ++ (t ∷ []))) ≡ joined (map g ts) ++ g t
-row_more g ts t = rw (map-append, joined-more)
-
 -- a row of parts that are all of one width
 pub length-row : {A B : Type 0} (g : B → List A) (w : ℕ) → ((t : B) → length (g t) ≡ w)
     → (ts : List B) → length (joined (map g ts)) ≡ w * length ts
@@ -61,14 +57,6 @@ unfolding cut joined
 joined-cut w zero l = rw mul-zero
 joined-cut w (suc n) l =
     rw (joined-cut w n (drop w l), mul-suc, add_comm (w * n) w) (sym (take-add w (w * n) l))
-
--- what is read from each part, written in a row
-module _ {A B C : Type 0} (f : List A → B) (g : B → List C) (w v : ℕ) (wide : (t : B) → length (g t) ≡ v) (n : ℕ) (l : List A) where
-  pub length_rows : length (joined (map g (map f (cut w n l)))) ≡ v * n
-  length_rows = rw (length-row g v wide (map f (cut w n l)), length-read f w n l)
-
-  pub rows_more : joined (map g (map f (cut w (n + 1) l))) ≡ joined (map g (map f (cut w n l))) ++ g (f (part l (w * n) w))
-  rows_more = rw (read_more f w n l, row_more)
 
 -- parts of one width in a row, with whatever follows, are cut into these parts
 pub cut-row : {A B : Type 0} (g : B → List A) (w : ℕ) → ((t : B) → length (g t) ≡ w)

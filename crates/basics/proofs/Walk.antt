@@ -1,5 +1,6 @@
 -- Laws of a walk over the first n places of an array: what stands from place i on is what stands at i, then what stands from i + 1 on.
 -- The walk ends where no place is left. Assumes nothing.
+use Rattle.std.specs.Prelude.{Some, None}
 use Prim.Native.Nat.{ℕ, ◌+◌, ◌<◌, ◌≤◌}
 use mathlib.Core.Path.{◌≡◌}
 use mathlib.Core.Bool.{Bool, true, false, ◌&&◌}
@@ -9,7 +10,6 @@ use native.Mathlib.Numerals.{add-one}
 use lib.ListN.{length, get_or, take, drop, length-take, drop_of_length-le}
 use lib.Seq.{drop-cons, take-suc, get_or-take}
 use Rattle.basics.specs.Lists.{total, all, find, find_after}
-use Rattle.basics.specs.declared.Found.TheVariants.{At, Nothing}
 
 -- the kept list and the array agree below its length
 pub kept : {A : Type 0} (xs : List A) (n i : ℕ) (d : A) → i < length (take n xs) → get_or (take n xs) i d ≡ get_or xs i d
@@ -30,14 +30,14 @@ module _ {A : Type 0} (xs : List A) (n i : ℕ) (d : A) (here : i < length (take
   pub total-next : (f : A → ℕ) → total f (drop i (take n xs)) ≡ f (get_or xs i d) + total f (drop (i + 1) (take n xs))
   total-next f = rw rest_cons
 
-  pub find-here : (ok : A → Bool) → ok (get_or xs i d) ≡ true → find ok (drop i (take n xs)) i ≡ At i
+  pub find-here : (ok : A → Bool) → ok (get_or xs i d) ≡ true → find ok (drop i (take n xs)) i ≡ Some i
   find-here ok e = rw (rest_cons, e)
 
   pub find-next : (ok : A → Bool) → ok (get_or xs i d) ≡ false → find ok (drop i (take n xs)) i ≡ find ok (drop (i + 1) (take n xs)) (i + 1)
   find-next ok e = rw (rest_cons, e)
 
   pub find_after-here : (ok : List A → A → Bool) → ok (take i (take n xs)) (get_or xs i d) ≡ true
-      → find_after ok (take i (take n xs)) (drop i (take n xs)) i ≡ At i
+      → find_after ok (take i (take n xs)) (drop i (take n xs)) i ≡ Some i
   find_after-here ok e = rw (rest_cons, e)
 
   pub find_after-next : (ok : List A → A → Bool) → ok (take i (take n xs)) (get_or xs i d) ≡ false
@@ -57,8 +57,8 @@ module _ {A : Type 0} (l : List A) (i : ℕ) (past : length l ≤ i) where
   pub total-end : (f : A → ℕ) → total f (drop i l) ≡ 0
   total-end f = rw rest-none
 
-  pub find-end : (ok : A → Bool) → find ok (drop i l) i ≡ Nothing
+  pub find-end : (ok : A → Bool) → find ok (drop i l) i ≡ None
   find-end ok = rw rest-none
 
-  pub find_after-end : (ok : List A → A → Bool) (older : List A) → find_after ok older (drop i l) i ≡ Nothing
+  pub find_after-end : (ok : List A → A → Bool) (older : List A) → find_after ok older (drop i l) i ≡ None
   find_after-end ok older = rw rest-none

@@ -1,42 +1,24 @@
-// Small things that know nothing of links: a conjunction, the first refusal of two, a place in a list, and numbers little-endian.
+// What knows nothing of links, and that the library has not: a list filled in parts.
 // Assumes nothing.
 #![tactic(auto)]
 
-ghost use Rattle.std.specs.Prelude.{◌≡◌, ◌&&◌};
-ghost use Rattle.basics.specs.Choice.{first_of};
-ghost use Rattle.basics.specs.Number.{whole_four, whole_two};
+ghost use Rattle.std.specs.Prelude.{◌≡◌, ℕ, ◌*◌, ◌<◌, ◌≤◌, List, ◌++◌, map, length, drop};
+ghost use Rattle.std.specs.Borrow.{MutBor};
+ghost use Rattle.std.specs.List.{range_with_len};
+ghost use Rattle.basics.specs.Parts.{joined};
 
-// Where in a list something was found.
-#[derive(Clone, Copy)]
-pub enum Found {
-    At(usize),
-    Nothing,
-}
-
-// Do both hold? A function and no `&&`, so that many tests in a row make no branches.
-pub fn both(a: bool, b: bool) -> bool
-    ensures { result ≡ (a && b) }
+// Fills the first of a list part by part, all of one width: `put` writes part i.
+pub fn fill_parts<T, F: Fn(usize, &mut [T]) + Drop>(
+    list: &mut [T],
+    width: usize,
+    count: usize,
+    put: F,
+)
+    requires callable { (i : ℕ) (x : MutBor (List T)) → i < count → length x.now ≡ width → F.pre put i x }
+    requires room { width * count ≤ length list.old }
+    ensures { (g : ℕ → List T) → ((i : ℕ) (x y : MutBor (List T)) → i < count → length x.now ≡ width → F.post put i x tt y → y.now ≡ g i) → list.new ≡ joined (map g (range_with_len 0 count)) ++ drop (width * count) list.old }
 {
-    if a { b } else { false }
-}
-
-// The first of two answers that refuses; 0 is no refusal. A row of refusals is read left to right.
-pub fn first_of(a: u8, b: u8) -> u8
-    ensures { result ≡ first_of a b }
-{
-    if a == 0 { b } else { a }
-}
-
-// The number of two bytes, the lower first.
-pub fn two(a: u8, b: u8) -> u16
-    ensures { result ≡ whole_two a b }
-{
-    a as u16 + 256 * (b as u16)
-}
-
-// The number of four bytes, the lowest first.
-pub fn four(a: u8, b: u8, c: u8, d: u8) -> u32
-    ensures { result ≡ whole_four a b c d }
-{
-    a as u32 + 256 * (b as u32) + 65536 * (c as u32) + 16777216 * (d as u32)
+    for i in 0..count {
+        put(i, &mut list[width * i..width * i + width]);
+    }
 }

@@ -10,7 +10,7 @@ use lib.Seq.{length-take-le}
 use Rattle.basics.specs.Each.{first_not}
 use Rattle.basics.specs.Parts.{cut, part}
 use Rattle.setup.specs.Bytes.{read_setup, setup_length}
-use Rattle.setup.specs.declared.Found.{Found}
+use Rattle.setup.specs.Bytes.{Found}
 use Rattle.setup.proofs.Answers.{found_bad, found_good}
 use Rattle.script.specs.Script.{agrees, most_steps, read_script, refused, script_length, trailer_at, trailer_of}
 use Rattle.script.specs.Step.{record_in_form}

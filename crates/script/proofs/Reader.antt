@@ -17,7 +17,7 @@ use Rattle.setup.specs.Bytes.{setup_at, setup_length}
 use Rattle.setup.specs.declared.Setup.{Setup}
 use Rattle.script.specs.Script.{agrees, count_of, list_after, most_steps, read_script, refused, script_length, setup_of, steps_of, trailer_of}
 use Rattle.script.specs.Step.{numbers_of, record_in_form, step_at}
-use Rattle.script.specs.declared.Read.{Read}
+use Rattle.script.specs.Script.{Read}
 use Rattle.script.specs.declared.Trailer.{Trailer}
 
 -- a trailer that agrees has the size's count, and not too many steps

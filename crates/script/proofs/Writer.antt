@@ -17,7 +17,7 @@ use Rattle.setup.specs.declared.Setup.{Setup}
 use Rattle.script.specs.Script.{buffer_after, most_steps, rejected, script_bytes, script_length, steps_in, trailer_bytes, write_script}
 use Rattle.script.specs.Step.{in_form, record_bytes, step_of}
 use Rattle.script.specs.declared.Step.{Step}
-use Rattle.script.specs.declared.Written.{Written}
+use Rattle.script.specs.Script.{Written}
 use Rattle.script.proofs.Form.{twelve_bytes}
 
 pub length-steps : (l : List ℕ) (count : ℕ) → length (steps_in l count) ≡ count

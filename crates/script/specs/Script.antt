@@ -1,6 +1,7 @@
 -- A script: step records from offset 0, then the setup, then a trailer that points back.
 -- Assumes nothing.
-use Rattle.std.specs.Prelude.{ℕ, ◌+◌, ◌-◌, ◌*◌, Bool, ◌&&◌, not, List, [], ◌∷◌, ◌++◌, map, leb, ltb, eqb, get_or, length, drop, if◌then◌else◌}
+use Rattle.std.specs.Prelude.{ℕ, ◌+◌, ◌-◌, ◌*◌, Bool, ◌&&◌, not, List, [], ◌∷◌, ◌++◌, map, leb, ltb, eqb, get_or, length, drop, if◌then◌else◌, Result, Ok, Err}
+use Rattle.answers.specs.Answers.{number_of}
 use Rattle.basics.specs.Each.{first_not}
 use Rattle.basics.specs.Number.{four, whole_four}
 use Rattle.basics.specs.Parts.{part, cut, joined}
@@ -10,8 +11,8 @@ use Rattle.setup.specs.Bytes.{setup_at, setup_bytes, setup_length}
 use Rattle.script.specs.Step.{in_form, numbers_of, record_bytes, record_in_form, step_at, step_of}
 use Rattle.script.specs.declared.Step.{Step}
 use Rattle.script.specs.declared.Trailer.{Trailer}
-use Rattle.script.specs.declared.Read.{Read}
-use Rattle.script.specs.declared.Written.{Written}
+use Rattle.script.specs.declared.Script.{Script}
+use Rattle.script.specs.declared.Rejection.{Rejection}
 
 -- ---- sizes
 
@@ -64,8 +65,19 @@ steps_of b = map step_at (records_of b)
 
 -- ---- the reader: answers 1 to 7, with their places
 
+-- what reading gives: 0 with the count of steps and the setup, or a refusal with its place, no count and the blank setup
+pub record Read : Type 0 where
+  pub answer : ℕ
+  pub place : ℕ
+  pub count : ℕ
+  pub setup : Setup
+
 abbrev pub refused : ℕ → ℕ → Read
 refused answer place = record { answer = answer; place = place; count = 0; setup = blank_setup }
+
+abbrev pub read_of : Result Script Rejection → Read
+read_of (Ok s) = record { answer = 0; place = 0; count = s.count; setup = s.setup }
+read_of (Err r) = refused (number_of r.refusal) r.place
 
 -- reading the bytes b, with room for so many numbers of steps
 unfoldable pub read_script : List ℕ → ℕ → Read
@@ -91,8 +103,18 @@ list_after b l =
 unfoldable pub steps_in : List ℕ → ℕ → List Step
 steps_in l count = map step_of (cut 6 count l)
 
+-- what writing gives: 0 with the script's length, or a refusal with its place and no length
+pub record Written : Type 0 where
+  pub answer : ℕ
+  pub place : ℕ
+  pub length : ℕ
+
 abbrev pub rejected : ℕ → ℕ → Written
 rejected answer place = record { answer = answer; place = place; length = 0 }
+
+abbrev pub written_of : Result ℕ Rejection → Written
+written_of (Ok n) = record { answer = 0; place = 0; length = n }
+written_of (Err r) = rejected (number_of r.refusal) r.place
 
 -- 4 also where the list has fewer than six numbers a step
 unfoldable pub write_script : Setup → List ℕ → ℕ → ℕ → Written

@@ -1,9 +1,34 @@
 -- A step and its form; a step as six numbers, and as a record of 12 bytes.
 -- Assumes nothing.
-use Rattle.std.specs.Prelude.{ℕ, ◌<◌, Bool, ◌&&◌, ◌||◌, List, [], ◌∷◌, ◌++◌, leb, eqb, get_or, if◌then◌else◌}
+use Rattle.std.specs.Prelude.{ℕ, ◌<◌, Bool, ◌&&◌, ◌||◌, List, [], ◌∷◌, ◌++◌, leb, eqb, get_or, if◌then◌else◌, Option, Some, None}
 use Rattle.basics.specs.Number.{four, two, whole_four, whole_two}
 use Rattle.setup.specs.Setup.{within}
 use Rattle.script.specs.declared.Step.{Step}
+use Rattle.script.specs.declared.Action.{Action}
+
+-- ---- what a step does, by its number
+
+abbrev pub action_number : Action → ℕ
+action_number Action.Submit = 1
+action_number Action.Send = 2
+action_number Action.Arrive = 3
+action_number Action.Damage = 4
+action_number Action.Lose = 5
+action_number Action.Take = 6
+action_number Action.Timer = 7
+action_number Action.Refresh = 8
+
+abbrev pub action_of : ℕ → Option Action
+action_of step =
+    if eqb step 1 then Some Action.Submit
+    else if eqb step 2 then Some Action.Send
+    else if eqb step 3 then Some Action.Arrive
+    else if eqb step 4 then Some Action.Damage
+    else if eqb step 5 then Some Action.Lose
+    else if eqb step 6 then Some Action.Take
+    else if eqb step 7 then Some Action.Timer
+    else if eqb step 8 then Some Action.Refresh
+    else None
 
 -- ---- the form: known step, end 0 or 1, zeros in place
 

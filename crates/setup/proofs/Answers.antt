@@ -9,7 +9,7 @@ use lib.ListN.{length, drop_of_length-le}
 use borrow.Author.Tests.{eq-eqb, le-ltb}
 use Rattle.setup.specs.Setup.{in_range}
 use Rattle.setup.specs.Bytes.{no_setup, read_setup, setup_after, setup_at, setup_bytes, setup_length, write_answer}
-use Rattle.setup.specs.declared.Found.{Found}
+use Rattle.setup.specs.Bytes.{Found}
 use Rattle.setup.specs.declared.Setup.{Setup}
 
 module _ (b : List ℕ) (size : length b ≡ setup_length) (f : Found) (is : f ≡ read_setup b) where

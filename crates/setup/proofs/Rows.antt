@@ -1,15 +1,13 @@
 -- Laws of the units' bytes, in a row.
 -- Assumes nothing.
-use Prim.Native.Nat.{ℕ, ◌+◌, ◌*◌, ◌≤◌, ◌<◌}
+use Prim.Native.Nat.{◌*◌}
 use mathlib.Core.Path.{◌≡◌, refl}
-use mathlib.Core.List.{List, ◌++◌, map}
-use native.Mathlib.Numerals.{add-one}
+use mathlib.Core.List.{List, map}
 use native.Mathlib.Omega.{arith}
-use lib.ListN.{length, length-append, get_or, take}
-use lib.Seq.{take-suc, length-take-le}
+use lib.ListN.{length, length-append}
 use Rattle.basics.specs.Parts.{joined}
-use Rattle.basics.proofs.Parts.{row_more, length-row}
-use Rattle.setup.specs.Setup.{no_units, slots}
+use Rattle.basics.proofs.Parts.{length-row}
+use Rattle.setup.specs.Setup.{slots}
 use Rattle.setup.specs.Bytes.{units_bytes, setup_bytes, setup_length}
 use Rattle.setup.specs.declared.Setup.{Setup}
 use Rattle.setup.specs.declared.Units.{Units}
@@ -17,15 +15,6 @@ use Rattle.setup.specs.declared.Units.{Units}
 pub four_bytes : (u : Units) → length (units_bytes u) ≡ 4
 unfolding units_bytes
 four_bytes u = refl
-
--- the bytes of the first i
-pub length-units : (us : List Units) (i : ℕ) → i ≤ length us → length (joined (map units_bytes (take i us))) ≡ 4 * i
-length-units us i h = rw (length-row units_bytes 4 four_bytes (take i us), length-take-le i us h)
-
--- one more
-pub units-more : (us : List Units) (i : ℕ) → i < length us
-    → joined (map units_bytes (take (i + 1) us)) ≡ joined (map units_bytes (take i us)) ++ units_bytes (get_or us i no_units)
-units-more us i h = rw (add-one, take-suc us i no_units h, row_more)
 
 -- the bytes of all
 pub length-all : (us : List Units) → length us ≡ slots → length (joined (map units_bytes us)) ≡ 4 * slots

@@ -1,12 +1,13 @@
 -- The setup's bytes.
 -- Assumes nothing.
-use Rattle.std.specs.Prelude.{ℕ, ◌+◌, ◌*◌, not, List, ◌∷◌, ◌++◌, map, ltb, eqb, get_or, length, drop, if◌then◌else◌}
+use Rattle.std.specs.Prelude.{ℕ, ◌+◌, ◌*◌, not, List, ◌∷◌, ◌++◌, map, ltb, eqb, get_or, length, drop, if◌then◌else◌, Result, Ok, Err}
+use Rattle.answers.specs.declared.Refusal.{Refusal}
+use Rattle.answers.specs.Answers.{number_of}
 use Rattle.basics.specs.Number.{two, whole_two}
 use Rattle.basics.specs.Parts.{part, cut, joined}
 use Rattle.setup.specs.Setup.{slots, blank_setup, in_range}
 use Rattle.setup.specs.declared.Setup.{Setup}
 use Rattle.setup.specs.declared.Units.{Units}
-use Rattle.setup.specs.declared.Found.{Found}
 
 -- ---- what the bytes are
 
@@ -28,6 +29,15 @@ units_of b = record { header = whole_two (get_or b 0 0) (get_or b 1 0); payload 
 
 unfoldable pub setup_at : List ℕ → Setup
 setup_at b = record { n = get_or b 0 0; classes = part b 1 7; units = map units_of (cut 4 slots (drop 8 b)) }
+
+-- what reading a setup gives: an answer number, and the setup, or the blank one where it is refused
+pub record Found : Type 0 where
+  pub answer : ℕ
+  pub setup : Setup
+
+abbrev pub found_of : Result Setup Refusal → Found
+found_of (Ok s) = record { answer = 0; setup = s }
+found_of (Err refusal) = record { answer = number_of refusal; setup = blank_setup }
 
 -- bytes that are no setup
 unfoldable pub no_setup : Found

@@ -1,44 +1,23 @@
--- `script::fill_records` meets its contract. The invariant: the steps passed are written, and behind them stand the old bytes.
+-- `script::fill_records` meets its contract: each part is the bytes of the step that its numbers say.
 -- Assumes nothing.
-use Rattle.std.proofs.Common.{rules}
-use native.Mathlib.Omega.{arith}
-use Prim.Native.Nat.{ℕ, ◌+◌, ◌-◌, ◌*◌}
-use mathlib.Core.Path.{◌≡◌, refl, sym, ap, ◌∙◌}
-use mathlib.Core.List.{List, map}
-use Rattle.basics.specs.Parts.{part, cut, joined}
-use Rattle.basics.proofs.Each.{first_map, first_at}
-use Rattle.basics.proofs.Parts.{part_filled, length_rows, rows_more}
+use Rattle.std.proofs.Common.{rules, ℕ, ◌<◌, ◌*◌, ◌∙◌, ◌++◌, sym, ap, drop}
+use Rattle.basics.specs.Parts.{part, joined, cut}
+use Rattle.basics.proofs.Each.{first_at, first_map}
+use Rattle.basics.proofs.ByIndex.{rows_by_index}
 use Rattle.script.specs.Script.{steps_in}
-use Rattle.script.specs.Step.{in_form, record_bytes, step_of}
-use Rattle.script.proofs.Form.{form_fits, twelve_bytes}
+use Rattle.script.specs.Step.{FitsBytes, in_form, record_bytes, step_of}
+use Rattle.script.proofs.Form.{form_fits}
 use Rattle.script.proofs.fill_records.Goals as goal
 
-abbrev rows : List ℕ → ℕ → List ℕ
-rows l i = joined (map record_bytes (map step_of (cut 6 i l)))
-
-pub loop-i-init : goal.loop-i-init
-unfolding cut joined
-loop-i-init c = (omega arith, (refl, refl))
-
-pub put_record-requires : goal.put_record-requires
+pub fill_parts-requires-clause-callable : goal.fill_parts-requires-clause-callable
 unfolding steps_in
-put_record-requires c =
-    let six : 6 * c.loop-i.i + 6 - 6 * c.loop-i.i ≡ 6 = omega arith in
-    let step = rw six at c.step_of-t.ensures in
+fill_parts-requires-clause-callable c =
     let all = sym (first_map in_form step_of (cut 6 c.args.count c.args.l.now)) ∙ c.requires.3 in
-    (search rules, rw step (form_fits (step_of (part c.args.l.now (6 * c.loop-i.i) 6)) (first_at (λ x. in_form (step_of x)) 6 c.args.count c.args.l.now c.loop-i.i all (omega arith))))
-
-pub loop-i-preserved : goal.loop-i-preserved
-loop-i-preserved c =
-    let six : 6 * c.loop-i.i + 6 - 6 * c.loop-i.i ≡ 6 = omega arith in
-    let x = c.put_record.ensures ∙ ap record_bytes (rw six at c.step_of-t.ensures) in (
-      omega arith,
-      part_filled 12 c.loop-i.i (rows c.args.l.now c.loop-i.i) (rows c.args.l.now (c.loop-i.i + 1)) c.args.w.now c.loop-i.w c.put_record.new.w
-          (length_rows step_of record_bytes 6 12 twelve_bytes c.loop-i.i c.args.l.now) c.loop-i.invariant.1.1 (rw x (rows_more step_of record_bytes 6 12 twelve_bytes c.loop-i.i c.args.l.now)) (rw x (twelve_bytes _)) (omega arith),
-    )
+    let fit : (i : ℕ) → i < c.args.count → FitsBytes (step_of (part c.args.l.now (6 * i) 6)) = λ i h. form_fits (step_of (part c.args.l.now (6 * i) 6)) (first_at (λ x. in_form (step_of x)) 6 c.args.count c.args.l.now i all h) in
+    λ i x h k. let f = fit i h in search rules
 
 pub returns : goal.returns
 unfolding steps_in
 returns c =
-    let e : c.loop-i.i ≡ c.args.count = omega arith in
-    rw e at c.loop-i.invariant.1.1
+    c.fill_parts.ensures (λ i. record_bytes (step_of (part c.args.l.now (6 * i) 6))) (λ i x y h k p. search rules)
+    ∙ ap (λ r. joined r ++ drop (12 * c.args.count) c.args.w.now) (sym (rows_by_index step_of record_bytes 6 c.args.l.now c.args.count))

@@ -2,9 +2,10 @@
 -- Assumes nothing.
 use Rattle.std.proofs.Common.{rules}
 use native.Mathlib.Omega.{arith}
-use Prim.Native.Nat.{◌+◌, ◌-◌, ◌*◌}
-use mathlib.Core.Path.{◌≡◌, sym, ◌∙◌}
-use lib.ListN.{length}
+use Prim.Native.Nat.{◌+◌, ◌-◌, ◌*◌, ◌≤◌}
+use mathlib.Core.Path.{◌≡◌, ◌∙◌}
+use lib.ListN.{drop, length, length-drop}
+use lib.Seq.{length-take-le}
 use Rattle.setup.proofs.Answers.{setup_written}
 use Rattle.setup.proofs.Rows.{length_setup}
 use Rattle.script.specs.Script.{steps_in}
@@ -19,7 +20,8 @@ returns c =
     let steps = length-steps c.args.l.now c.args.count in
     let wide : 12 * c.args.count + 104 - 12 * c.args.count ≡ 104 = omega arith in
     let last : 12 * c.args.count + 104 + 12 - (12 * c.args.count + 104) ≡ 12 = omega arith in
-    let part = sym (rw wide at c.write_setup-arg-1.given.1) in
+    let rest : 104 ≤ length (drop (12 * c.args.count) c.fill_records.new.w) = rw length-drop (omega (arith, c.fill_records.auto.w, c.requires.2)) in
+    let part = length-take-le 104 (drop (12 * c.args.count) c.fill_records.new.w) rest in
     let setup = rw wide at c.write_setup.ensures.1 ∙ setup_written c.args.s _ c.requires.4 part in
     let ts = steps_in c.args.l.now c.args.count in
     rw (last, wide, c.put_trailer.ensures, setup, c.fill_records.ensures, setup_put c.args.s ts c.args.count c.args.w.now steps size)

@@ -1,25 +1,14 @@
--- `Setup::categories_fit` meets its contract. The invariant: what was found holds of each category passed.
+-- `Setup::categories_fit` meets its contract: a test of every category.
 -- Assumes nothing.
-use native.Mathlib.Omega.{arith}
-use mathlib.Core.Path.{◌≡◌, refl, sym, ◌∙◌}
-use Rattle.basics.specs.Each.{each}
-use Rattle.basics.proofs.Each.{each_more}
-use Rattle.setup.specs.Setup.{categories_fit}
+use Rattle.std.proofs.Common.{rules, refl, ltb, tests, ◌∙◌}
+use Rattle.std.proofs.lemmas.Iterator.{YieldsList-from_range}
+use Rattle.std.proofs.lemmas.Iterator.Search.{all_from_yields_List}
+use Rattle.basics.proofs.Each.{each_range}
+use Rattle.setup.specs.Setup.{units_fit, units_at, categories_fit}
 use Rattle.setup.proofs.Setup.categories_fit.Goals as goal
-
-pub loop-category-init : goal.loop-category-init
-unfolding each
-loop-category-init c = (omega arith, refl)
-
-pub loop-category-preserved : goal.loop-category-preserved
-loop-category-preserved c = (
-  omega arith,
-  c.both-fit.ensures
-      ∙ rw (c.loop-category.invariant.1, c.units_fit.ensures, c.units_at.ensures) (sym (each_more c.loop-category.category _)),
-)
 
 pub returns : goal.returns
 unfolding categories_fit
 returns c =
-    let e : c.loop-category.category ≡ 3 = omega arith in
-    rw e at c.loop-category.invariant.1
+    all_from_yields_List (λ category. units_fit (ltb c.args.channel c.args.self.n) (units_at c.args.self c.args.end c.args.channel category)) _ _ _ c.all.ensures.ran (YieldsList-from_range 0 3 3 refl refl) (λ x b q k. search (rules, tests))
+    ∙ each_range 3 _

@@ -1,22 +1,14 @@
--- `Setup::channels_fit` meets its contract. The invariant: what was found holds of each channel passed.
+-- `Setup::channels_fit` meets its contract: a test of every channel.
 -- Assumes nothing.
-use native.Mathlib.Omega.{arith}
-use mathlib.Core.Path.{◌≡◌, refl, sym, ◌∙◌}
-use Rattle.basics.specs.Each.{each}
-use Rattle.basics.proofs.Each.{each_more}
-use Rattle.setup.specs.Setup.{channels_fit}
+use Rattle.std.proofs.Common.{rules, refl, tests, ◌∙◌}
+use Rattle.std.proofs.lemmas.Iterator.{YieldsList-from_range}
+use Rattle.std.proofs.lemmas.Iterator.Search.{all_from_yields_List}
+use Rattle.basics.proofs.Each.{each_range}
+use Rattle.setup.specs.Setup.{categories_fit, channels_fit}
 use Rattle.setup.proofs.Setup.channels_fit.Goals as goal
-
-pub loop-channel-init : goal.loop-channel-init
-unfolding each
-loop-channel-init c = (omega arith, refl)
-
-pub loop-channel-preserved : goal.loop-channel-preserved
-loop-channel-preserved c =
-    (omega arith, c.both-fit.ensures ∙ rw (c.loop-channel.invariant.1, c.categories_fit.ensures) (sym (each_more c.loop-channel.channel _)))
 
 pub returns : goal.returns
 unfolding channels_fit
 returns c =
-    let e : c.loop-channel.channel ≡ 4 = omega arith in
-    rw e at c.loop-channel.invariant.1
+    all_from_yields_List (λ channel. categories_fit c.args.self c.args.end channel) _ _ _ c.all.ensures.ran (YieldsList-from_range 0 4 4 refl refl) (λ x b q k. search (rules, tests))
+    ∙ each_range 4 _

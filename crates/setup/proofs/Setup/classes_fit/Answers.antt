@@ -1,22 +1,14 @@
--- `Setup::classes_fit` meets its contract. The invariant: what was found holds of each class passed.
+-- `Setup::classes_fit` meets its contract: a test of every class.
 -- Assumes nothing.
-use native.Mathlib.Omega.{arith}
-use mathlib.Core.Path.{◌≡◌, refl, sym, ◌∙◌}
-use Rattle.basics.specs.Each.{each}
-use Rattle.basics.proofs.Each.{each_more}
-use Rattle.setup.specs.Setup.{classes_fit}
+use Rattle.std.proofs.Common.{rules, refl, ltb, tests, ◌∙◌}
+use Rattle.std.proofs.lemmas.Iterator.{YieldsList-from_range}
+use Rattle.std.proofs.lemmas.Iterator.Search.{all_from_yields_List}
+use Rattle.basics.proofs.Each.{each_range}
+use Rattle.setup.specs.Setup.{channel_of, classes_fit}
 use Rattle.setup.proofs.Setup.classes_fit.Goals as goal
-
-pub loop-class-init : goal.loop-class-init
-unfolding each
-loop-class-init c = (omega arith, refl)
-
-pub loop-class-preserved : goal.loop-class-preserved
-loop-class-preserved c =
-    (omega arith, c.both-fit.ensures ∙ rw (c.loop-class.invariant.1, c.channel_of.ensures) (sym (each_more c.loop-class.class _)))
 
 pub returns : goal.returns
 unfolding classes_fit
 returns c =
-    let e : c.loop-class.class ≡ 8 = omega arith in
-    rw e at c.loop-class.invariant.1
+    all_from_yields_List (λ class. ltb (channel_of c.args.self class) c.args.self.n) _ _ _ c.all.ensures.ran (YieldsList-from_range 0 8 8 refl refl) (λ x b q k. search (rules, tests))
+    ∙ each_range 8 _
