@@ -1,12 +1,12 @@
 -- What the choice of a new packet promises: the three facts that later proofs use of it, and that nothing eligible is passed over.
 -- Assumes nothing.
+use Rattle.std.specs.Prelude.{Some, None}
 use Prim.Native.Nat.{ℕ, ◌<◌}
 use mathlib.Core.Path.{◌≡◌, refl}
 use mathlib.Core.Bool.{Bool, true, false, ◌&&◌, ◌||◌}
 use mathlib.Core.Logic.{◌⊎◌, inl, inr}
 use mathlib.Core.List.{List}
 use lib.ListN.{length, get_or, take}
-use Rattle.basics.specs.declared.Found.TheVariants.{At, Nothing}
 use Rattle.basics.proofs.Branches.{and_left, and_right}
 use Rattle.basics.proofs.Finds.{found_after, found-nothing-after}
 use Rattle.packets.specs.declared.Packet.{Packet}
@@ -18,7 +18,7 @@ use Rattle.store.specs.Store.{no_packet, is_of}
 use Rattle.choice.specs.Choice.{credit_of, none_of, eligible, chosen}
 
 module _ (credits : List Credit) (ps : List Packet) where
-  module _ (i : ℕ) (at : chosen credits ps ≡ At i) where
+  module _ (i : ℕ) (at : chosen credits ps ≡ Some i) where
     abbrev it : Packet
     it = get_or ps i no_packet
 
@@ -60,6 +60,6 @@ module _ (credits : List Credit) (ps : List Packet) where
         go false e h = inr h
 
   -- where nothing is chosen nothing is eligible
-  pub none-chosen : (j : ℕ) → chosen credits ps ≡ Nothing → j < length ps → eligible credits (take j ps) (get_or ps j no_packet) ≡ false
+  pub none-chosen : (j : ℕ) → chosen credits ps ≡ None → j < length ps → eligible credits (take j ps) (get_or ps j no_packet) ≡ false
   unfolding chosen
   none-chosen j e h = found-nothing-after no_packet (eligible credits) ps j e h

@@ -1,8 +1,7 @@
 -- Which packet of a channel goes next. Document 01, step Send: a new packet is its channel's oldest eligible one.
 -- Assumes nothing.
-use Rattle.std.specs.Prelude.{Bool, ◌&&◌, ◌||◌, not, List, [], get_or}
+use Rattle.std.specs.Prelude.{Bool, ◌&&◌, ◌||◌, not, List, [], get_or, Option, ℕ}
 use Rattle.basics.specs.Lists.{all, find_after}
-use Rattle.basics.specs.declared.Found.{Found}
 use Rattle.packets.specs.declared.Packet.{Packet}
 use Rattle.packets.specs.declared.Category.{Category}
 use Rattle.packets.specs.declared.Category.TheVariants.{Posted}
@@ -27,5 +26,5 @@ eligible credits older p =
     && (is_of Posted p || none_of Posted older)
 
 -- the place of the oldest eligible one
-unfoldable pub chosen : List Credit → List Packet → Found
+unfoldable pub chosen : List Credit → List Packet → Option ℕ
 chosen credits ps = find_after (eligible credits) [] ps 0

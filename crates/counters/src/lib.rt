@@ -1,10 +1,15 @@
 // The counters of the link: header units, data units, sequence numbers and the retrain count. All wrap.
-// Each keeps its modulus and half range, which stand nowhere else in the code. Assumes nothing: every function takes all values.
-#![tactic(auto)]
+// Each keeps its modulus and half range, which stand nowhere else in the code; `Wrapped` has what follows from them, once for all.
+// Assumes nothing: every function takes all values.
+#![tactic(auto, unfolding(crate::specs::Wrapped::plus, crate::specs::Wrapped::minus, crate::specs::Counters::added, crate::specs::Counters::between, crate::specs::Counters::may_send, crate::specs::Counters::update_answer))]
 
-ghost use Rattle.std.specs.Prelude.{◌≡◌, ◌-◌};
+ghost use Rattle.std.specs.Prelude.{◌≡◌, ℕ, ◌-◌, ◌<◌, refl};
+ghost use Rattle.std.proofs.Common.{ltb-true};
 ghost use Rattle.counters.specs.Wrapped.{plus, minus, within, gate};
-ghost use Rattle.counters.specs.Counters.{header_range, header_half, headers, data_range, data_half, datas, seq_range, seq, next_of, before_of, after_of, order_of, ack_answer, retrain_range, retrains, counts, added, between, may_send, update_answer};
+ghost use Rattle.answers.specs.Answers.{answer_of};
+ghost use Rattle.counters.specs.Counters.{header_range, header_half, headers, data_range, data_half, datas, seq_range, seq_half, seq, next_of, before_of, after_of, order_of, ack_answer, retrain_range, retrains, counts, added, between, may_send, update_answer};
+
+use answers::Refusal;
 
 // Header units: one for each packet.
 #[derive(Clone, Copy)]
@@ -15,84 +20,165 @@ pub struct Header(pub u8);
 pub struct Data(pub u16);
 
 // Sequence numbers of packets on a line.
-#[derive(Clone, Copy)]
+#[derive(Clone, Copy, PartialEq, Eq)]
 pub struct Seq(pub u16);
 
-// How often the link was trained again.
+// How often the link was trained again. It only grows by one and takes all of its type, so it has no half range and is not `Wrapped`.
 #[derive(Clone, Copy)]
 pub struct Retrain(pub u16);
 
-impl Header {
-    pub const RANGE: u16 = 256;
+// A counter that wraps at RANGE: its sum, its difference and the tests on them. Each counter gives its numbers alone.
+pub trait Wrapped: Copy {
+    ghost RANGE: { ℕ };
 
-    pub const HALF: u8 = 128;
+    ghost HALF: { ℕ };
 
-    pub fn start() -> Self
-        ensures { result ≡ headers 0 }
+    // The number that a counter stores, and the counter that stores a number.
+    ghost stored: { Self → ℕ };
+
+    ghost storing: { ℕ → Self };
+
+    const RANGE: u16;
+
+    const HALF: u16;
+
+    fn number(self) -> u16
+        ensures { result ≡ stored self };
+
+    fn of(n: u16) -> Self
+        requires { n < RANGE }
+        ensures { result ≡ storing n };
+
+    final fn start() -> Self
+        ensures { result ≡ storing 0 }
     {
-        Header(0)
+        Self::of(0)
     }
 
-    pub fn add(self, n: Header) -> Self
-        ensures { result ≡ headers (plus header_range self.0 n.0) }
+    final fn add(self, n: Self) -> Self
+        ensures { result ≡ storing (plus RANGE (stored self) (stored n)) }
     {
-        Header(std::num::wrapping_add_u8(self.0, n.0))
+        let sum = u32::from(self.number()) + u32::from(n.number());
+        Self::of((sum % u32::from(Self::RANGE)) as u16)
     }
 
-    pub fn sub(self, n: Header) -> Self
-        ensures { result ≡ headers (minus header_range self.0 n.0) }
+    final fn sub(self, n: Self) -> Self
+        ensures { result ≡ storing (minus RANGE (stored self) (stored n)) }
     {
-        Header(std::num::wrapping_sub_u8(self.0, n.0))
+        let range = u32::from(Self::RANGE);
+        let ahead = u32::from(self.number()) + (range - u32::from(n.number()) % range);
+        Self::of((ahead % range) as u16)
+    }
+
+    // Does this lie at most so far ahead of the other?
+    final fn is_within(self, most: usize, other: Self) -> bool
+        ensures { result ≡ within RANGE most (stored self) (stored other) }
+    {
+        usize::from(self.sub(other).number()) <= most
     }
 
     // Does this limit allow so many more?
-    pub fn allows(self, consumed: Header, need: Header) -> bool
-        ensures { result ≡ gate header_range header_half self.0 consumed.0 need.0 }
+    final fn allows(self, consumed: Self, need: Self) -> bool
+        ensures { result ≡ gate RANGE HALF (stored self) (stored consumed) (stored need) }
     {
-        self.sub(consumed).sub(need).0 <= Header::HALF
+        self.sub(consumed).is_within(usize::from(Self::HALF), need)
     }
 
     // Does this count lie less than half the range ahead of the one stored?
-    pub fn follows(self, stored: Header) -> bool
-        ensures { result ≡ within header_range (header_half - 1) self.0 stored.0 }
+    final fn follows(self, other: Self) -> bool
+        ensures { result ≡ within RANGE (HALF - 1) (stored self) (stored other) }
     {
-        self.sub(stored).0 <= Header::HALF - 1
+        self.is_within(usize::from(Self::HALF) - 1, other)
+    }
+
+    ghost positive: { 0 < RANGE };
+
+    ghost halved: { 0 < HALF };
+
+    ghost kept: { (n : ℕ) → n < RANGE → stored (storing n) ≡ n };
+}
+
+impl Wrapped for Header {
+    ghost RANGE = { header_range };
+
+    ghost HALF = { header_half };
+
+    ghost stored = { λ c. c.0 };
+
+    ghost storing = { headers };
+
+    ghost positive = { ltb-true 0 header_range refl };
+
+    ghost halved = { ltb-true 0 header_half refl };
+
+    ghost kept = { λ n h. refl };
+
+    const RANGE: u16 = 256;
+
+    const HALF: u16 = 128;
+
+    fn number(self) -> u16 {
+        u16::from(self.0)
+    }
+
+    fn of(n: u16) -> Header {
+        Header(n as u8)
     }
 }
 
-impl Data {
-    pub const RANGE: u16 = 4096;
+impl Wrapped for Data {
+    ghost RANGE = { data_range };
 
-    pub const HALF: u16 = 2048;
+    ghost HALF = { data_half };
 
-    pub fn start() -> Self
-        ensures { result ≡ datas 0 }
-    {
-        Data(0)
+    ghost stored = { λ c. c.0 };
+
+    ghost storing = { datas };
+
+    ghost positive = { ltb-true 0 data_range refl };
+
+    ghost halved = { ltb-true 0 data_half refl };
+
+    ghost kept = { λ n h. refl };
+
+    const RANGE: u16 = 4096;
+
+    const HALF: u16 = 2048;
+
+    fn number(self) -> u16 {
+        self.0
     }
 
-    pub fn add(self, n: Data) -> Self
-        ensures { result ≡ datas (plus data_range self.0 n.0) }
-    {
-        Data((self.0 % Data::RANGE + n.0 % Data::RANGE) % Data::RANGE)
+    fn of(n: u16) -> Data {
+        Data(n)
+    }
+}
+
+impl Wrapped for Seq {
+    ghost RANGE = { seq_range };
+
+    ghost HALF = { seq_half };
+
+    ghost stored = { λ c. c.0 };
+
+    ghost storing = { seq };
+
+    ghost positive = { ltb-true 0 seq_range refl };
+
+    ghost halved = { ltb-true 0 seq_half refl };
+
+    ghost kept = { λ n h. refl };
+
+    const RANGE: u16 = 4096;
+
+    const HALF: u16 = 2048;
+
+    fn number(self) -> u16 {
+        self.0
     }
 
-    pub fn sub(self, n: Data) -> Self
-        ensures { result ≡ datas (minus data_range self.0 n.0) }
-    {
-        Data((self.0 % Data::RANGE + (Data::RANGE - n.0 % Data::RANGE)) % Data::RANGE)
-    }
-
-    pub fn allows(self, consumed: Data, need: Data) -> bool
-        ensures { result ≡ gate data_range data_half self.0 consumed.0 need.0 }
-    {
-        self.sub(consumed).sub(need).0 <= Data::HALF
-    }
-
-    pub fn follows(self, stored: Data) -> bool
-        ensures { result ≡ within data_range (data_half - 1) self.0 stored.0 }
-    {
-        self.sub(stored).0 <= Data::HALF - 1
+    fn of(n: u16) -> Seq {
+        Seq(n)
     }
 }
 
@@ -105,28 +191,6 @@ pub enum Order {
 }
 
 impl Seq {
-    pub const RANGE: u16 = 4096;
-
-    pub const HALF: u16 = 2048;
-
-    pub fn start() -> Self
-        ensures { result ≡ seq 0 }
-    {
-        Seq(0)
-    }
-
-    pub fn add(self, n: Seq) -> Self
-        ensures { result ≡ seq (plus seq_range self.0 n.0) }
-    {
-        Seq((self.0 % Seq::RANGE + n.0 % Seq::RANGE) % Seq::RANGE)
-    }
-
-    pub fn sub(self, n: Seq) -> Self
-        ensures { result ≡ seq (minus seq_range self.0 n.0) }
-    {
-        Seq((self.0 % Seq::RANGE + (Seq::RANGE - n.0 % Seq::RANGE)) % Seq::RANGE)
-    }
-
     pub fn next(self) -> Self
         ensures { result ≡ next_of self }
     {
@@ -143,31 +207,30 @@ impl Seq {
     pub fn after(self, n: usize) -> Self
         ensures { result ≡ after_of self n }
     {
-        let range = Seq::RANGE as usize;
-        self.add(Seq((n % range) as u16))
+        self.add(Seq((n % usize::from(Seq::RANGE)) as u16))
     }
 
     // What a packet of this number is where self is next-receive.
     pub fn order(self, number: Seq) -> Order
         ensures { result ≡ order_of self number }
     {
-        if number.0 == self.0 {
-            return Order::Next;
+        if number == self {
+            Order::Next
+        } else if self.is_within(usize::from(Seq::HALF), number) {
+            Order::Duplicate
+        } else {
+            Order::OutOfOrder
         }
-        if self.sub(number).0 <= Seq::HALF {
-            return Order::Duplicate;
-        }
-        Order::OutOfOrder
     }
 
-    // 24 where an Ack or Nak of this number is not accepted: self was acknowledged last, and `out` packets are out after it.
-    pub fn ack_answer(self, out: usize, number: Seq) -> u8
-        ensures { result ≡ ack_answer self out number }
+    // Refused where an Ack or Nak of this number is not accepted: self was acknowledged last, and `out` packets are out after it.
+    pub fn ack_answer(self, out: usize, number: Seq) -> Result<(), Refusal>
+        ensures { answer_of result ≡ ack_answer self out number }
     {
-        if number.sub(self).0 as usize <= out {
-            0
+        if number.is_within(out, self) {
+            Ok(())
         } else {
-            24
+            Err(Refusal::Acknowledgement)
         }
     }
 }
@@ -184,7 +247,7 @@ impl Retrain {
     pub fn grow(self) -> Self
         ensures { result ≡ retrains (plus retrain_range self.0 1) }
     {
-        Retrain(std::num::wrapping_add_u16(self.0, 1))
+        Retrain(self.0.wrapping_add(1))
     }
 }
 
@@ -208,34 +271,36 @@ impl Counts {
     pub fn add(self, n: Counts) -> Self
         ensures { result ≡ added self n }
     {
-        let h = self.h.add(n.h);
-        let d = self.d.add(n.d);
-        Counts { h, d }
+        Counts {
+            h: self.h.add(n.h),
+            d: self.d.add(n.d),
+        }
     }
 
     pub fn sub(self, n: Counts) -> Self
         ensures { result ≡ between self n }
     {
-        let h = self.h.sub(n.h);
-        let d = self.d.sub(n.d);
-        Counts { h, d }
+        Counts {
+            h: self.h.sub(n.h),
+            d: self.d.sub(n.d),
+        }
     }
 
     // May a packet of this need be sent under this limit?
     pub fn may_send(self, consumed: Counts, need: Counts) -> bool
         ensures { result ≡ may_send self consumed need }
     {
-        let h = self.h.allows(consumed.h, need.h);
-        let d = self.d.allows(consumed.d, need.d);
-        basics::both(h, d)
+        self.h.allows(consumed.h, need.h) && self.d.allows(consumed.d, need.d)
     }
 
-    // 25 where an update is not accepted in place of this limit.
-    pub fn update_answer(self, update: Counts) -> u8
-        ensures { result ≡ update_answer self update }
+    // Refused where an update is not accepted in place of this limit.
+    pub fn update_answer(self, update: Counts) -> Result<(), Refusal>
+        ensures { answer_of result ≡ update_answer self update }
     {
-        let h = update.h.follows(self.h);
-        let d = update.d.follows(self.d);
-        if basics::both(h, d) { 0 } else { 25 }
+        if update.h.follows(self.h) && update.d.follows(self.d) {
+            Ok(())
+        } else {
+            Err(Refusal::Update)
+        }
     }
 }

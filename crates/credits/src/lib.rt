@@ -1,24 +1,25 @@
 // Credits: what one category of one channel may still send, and the room that its receiver has for it.
 // Assumes nothing: every function takes all values.
-#![tactic(auto)]
+#![tactic(auto, unfolding(crate::specs::Credits::advertised, crate::specs::Credits::spent, crate::specs::Credits::updated, crate::specs::Credits::room_answer, crate::specs::Credits::received, crate::specs::Credits::given_back, crate::specs::Credits::marked, crate::specs::Credits::unmarked))]
 
 ghost use Rattle.std.specs.Prelude.{◌≡◌};
+ghost use Rattle.answers.specs.Answers.{answer_of};
 ghost use Rattle.counters.specs.Counters.{update_answer};
 ghost use Rattle.credits.specs.Credits.{advertised, credit_for, suffices, spent, updated, room_of, free_of, room_answer, received, given_back, marked, unmarked};
 
-use counters::{Counts, Data, Header};
+use answers::Refusal;
+use counters::{Counts, Data, Header, Wrapped};
 
 // The units that a setup gives, as counts. Answer 5 refuses more header units than their counter holds; here they count as none.
 pub fn advertised(header: u16, units: u16) -> Counts
     ensures { result ≡ advertised header units }
 {
-    let d = Data(units);
-    if header < Header::RANGE {
-        let h = Header((header % Header::RANGE) as u8);
-        return Counts { h, d };
-    }
-    let h = Header::start();
-    Counts { h, d }
+    let h = if header < Header::RANGE {
+        Header::of(header)
+    } else {
+        Header::start()
+    };
+    Counts { h, d: Data(units) }
 }
 
 // The sender's side: the limit comes from the other end, consumed counts what was sent as new.
@@ -33,8 +34,10 @@ impl Credit {
     pub fn start(limit: Counts) -> Credit
         ensures { result ≡ credit_for limit }
     {
-        let consumed = Counts::start();
-        Credit { limit, consumed }
+        Credit {
+            limit,
+            consumed: Counts::start(),
+        }
     }
 
     // May a packet of this need be sent?
@@ -48,14 +51,15 @@ impl Credit {
     pub fn spend(self, need: Counts) -> Credit
         ensures { result ≡ spent self need }
     {
-        let limit = self.limit;
-        let consumed = self.consumed.add(need);
-        Credit { limit, consumed }
+        Credit {
+            consumed: self.consumed.add(need),
+            ..self
+        }
     }
 
-    // 25 where an update to these limits is not accepted; else 0.
-    pub fn update_answer(self, limits: Counts) -> u8
-        ensures { result ≡ update_answer self.limit limits }
+    // Refused where an update to these limits is not accepted.
+    pub fn update_answer(self, limits: Counts) -> Result<(), Refusal>
+        ensures { answer_of result ≡ update_answer self.limit limits }
     {
         self.limit.update_answer(limits)
     }
@@ -64,10 +68,9 @@ impl Credit {
     pub fn updated(self, limits: Counts) -> Credit
         ensures { result ≡ updated self limits }
     {
-        let consumed = self.consumed;
         Credit {
             limit: limits,
-            consumed,
+            ..self
         }
     }
 }
@@ -85,10 +88,9 @@ impl Room {
     pub fn start(allocated: Counts) -> Room
         ensures { result ≡ room_of allocated }
     {
-        let received = Counts::start();
         Room {
             allocated,
-            received,
+            received: Counts::start(),
             marked: false,
         }
     }
@@ -100,15 +102,15 @@ impl Room {
         self.allocated.sub(self.received)
     }
 
-    // 26 where the need is over the free header or data room; else 0.
-    pub fn room_answer(self, need: Counts) -> u8
-        ensures { result ≡ room_answer self need }
+    // Refused where the need is over the free header or data room.
+    pub fn room_answer(self, need: Counts) -> Result<(), Refusal>
+        ensures { answer_of result ≡ room_answer self need }
     {
         let free = self.free();
-        if basics::both(need.h.0 <= free.h.0, need.d.0 <= free.d.0) {
-            0
+        if need.h.0 <= free.h.0 && need.d.0 <= free.d.0 {
+            Ok(())
         } else {
-            26
+            Err(Refusal::OverRoom)
         }
     }
 
@@ -116,12 +118,9 @@ impl Room {
     pub fn receive(self, need: Counts) -> Room
         ensures { result ≡ received self need }
     {
-        let allocated = self.allocated;
-        let received = self.received.add(need);
         Room {
-            allocated,
-            received,
-            marked: self.marked,
+            received: self.received.add(need),
+            ..self
         }
     }
 
@@ -129,13 +128,9 @@ impl Room {
     pub fn give_back(self, need: Counts) -> Room
         ensures { result ≡ given_back self need }
     {
-        let allocated = self.allocated.add(need);
-        let received = self.received;
-        let marked = true;
         Room {
-            allocated,
-            received,
-            marked,
+            allocated: self.allocated.add(need),
+            ..self.mark()
         }
     }
 
@@ -143,12 +138,9 @@ impl Room {
     pub fn mark(self) -> Room
         ensures { result ≡ marked self }
     {
-        let allocated = self.allocated;
-        let received = self.received;
         Room {
-            allocated,
-            received,
             marked: true,
+            ..self
         }
     }
 
@@ -156,12 +148,9 @@ impl Room {
     pub fn unmark(self) -> Room
         ensures { result ≡ unmarked self }
     {
-        let allocated = self.allocated;
-        let received = self.received;
         Room {
-            allocated,
-            received,
             marked: false,
+            ..self
         }
     }
 }

@@ -1,16 +1,15 @@
 -- Frames: a packet with its number, or a link message: Ack, Nak or update. The range rule of answer 27.
 -- Assumes nothing.
-use Rattle.std.specs.Prelude.{ℕ, Bool, ◌&&◌, ltb, eqb, if◌then◌else◌}
+use Rattle.std.specs.Prelude.{ℕ, Bool, ◌&&◌, ltb, eqb, if◌then◌else◌, Some, None, Option, Result, Ok, Err}
 use Rattle.counters.specs.declared.Seq.{Seq}
 use Rattle.counters.specs.declared.Counts.{Counts}
 use Rattle.counters.specs.Counters.{header_range, data_range, seq_range, headers, datas, counts}
 use Rattle.packets.specs.declared.Packet.{Packet}
 use Rattle.packets.specs.declared.Category.{Category}
-use Rattle.packets.specs.declared.Numbered.{Numbered}
 use Rattle.packets.specs.Packets.{packet_answer}
 use Rattle.frames.specs.declared.Message.{Message}
 use Rattle.frames.specs.declared.Frame.{Frame}
-use Rattle.frames.specs.declared.Made.{Made}
+use Rattle.answers.specs.declared.Refusal.{Refusal}
 
 -- a number not over 4,095
 abbrev pub number_in_range : Seq → Bool
@@ -41,13 +40,9 @@ abbrev pub update_frame : ℕ → Category → ℕ → ℕ → Frame
 update_frame channel category header units = Frame.Message (Message.Update channel category (counts (headers header) (datas units)))
 
 -- a header count not over 255, then the rule of the frame itself
-abbrev pub update_of : ℕ → ℕ → Numbered → ℕ → ℕ → Made
-update_of n channel (Numbered.Category category) header units =
+abbrev pub update_of : ℕ → ℕ → Option Category → ℕ → ℕ → Result Frame Refusal
+update_of n channel (Some category) header units =
     if ltb header header_range && in_range n (update_frame channel category header units)
-    then Made.Frame (update_frame channel category header units)
-    else Made.OutOfRange
-update_of n channel Numbered.Nothing header units = Made.OutOfRange
-
-abbrev pub made_answer : Made → ℕ
-made_answer (Made.Frame f) = 0
-made_answer Made.OutOfRange = 27
+    then Ok (update_frame channel category header units)
+    else Err Refusal.Field
+update_of n channel None header units = Err Refusal.Field

@@ -1,13 +1,15 @@
 // Frames: what goes over a line, and the range rule of answer 27.
 // Assumes nothing: every function takes all values.
-#![tactic(auto)]
+#![tactic(auto, unfolding(crate::specs::Frames::in_range))]
 
 ghost use Rattle.std.specs.Prelude.{◌≡◌};
 ghost use Rattle.packets.specs.Packets.{numbered};
-ghost use Rattle.frames.specs.Frames.{number_in_range, packet_in_range, in_range, frame_answer, update_of, made_answer};
+ghost use Rattle.answers.specs.Answers.{answer_of};
+ghost use Rattle.frames.specs.Frames.{number_in_range, packet_in_range, in_range, frame_answer, update_of};
 
-use counters::{Counts, Data, Header, Seq};
-use packets::{Category, Numbered, Packet};
+use answers::Refusal;
+use counters::{Counts, Data, Header, Seq, Wrapped};
+use packets::{Category, Packet};
 
 // Ack and Nak carry the number up to which all was received. An update carries both allocated counts.
 #[derive(Clone, Copy)]
@@ -28,24 +30,17 @@ pub enum Frame {
     Message(Message),
 }
 
-// A frame made from numbers, or a refusal.
-#[derive(Clone, Copy)]
-pub enum Made {
-    Frame(Frame),
-    OutOfRange,
-}
-
 fn number_in_range(number: Seq) -> bool
     ensures { result ≡ number_in_range number }
 {
     number.0 < Seq::RANGE
 }
 
+#[tactic(auto, using(answers::proofs::Outcomes::accepts))]
 fn packet_in_range(number: Seq, p: Packet) -> bool
     ensures { result ≡ packet_in_range number p }
 {
-    let ok = number_in_range(number);
-    basics::both(ok, p.answer() == 0)
+    number_in_range(number) && p.answer().is_ok()
 }
 
 impl Message {
@@ -53,13 +48,12 @@ impl Message {
         ensures { result ≡ in_range n (Frame.Message self) }
     {
         match self {
-            Message::Ack(number) => number_in_range(number),
-            Message::Nak(number) => number_in_range(number),
+            Message::Ack(number) | Message::Nak(number) => number_in_range(number),
             Message::Update {
                 channel,
                 category: _,
                 counts,
-            } => basics::both(channel < n, counts.d.0 < Data::RANGE),
+            } => channel < n && counts.d.0 < Data::RANGE,
         }
     }
 }
@@ -74,45 +68,41 @@ impl Frame {
         }
     }
 
-    // 27 where a field is out of range and n channels are in use; else 0.
-    pub fn answer(self, n: u8) -> u8
-        ensures { result ≡ frame_answer n self }
+    // Refused where a field is out of range and n channels are in use.
+    pub fn answer(self, n: u8) -> Result<(), Refusal>
+        ensures { answer_of result ≡ frame_answer n self }
     {
-        if self.in_range(n) { 0 } else { 27 }
+        if self.in_range(n) {
+            Ok(())
+        } else {
+            Err(Refusal::Field)
+        }
     }
 }
 
 // The update of these numbers, where n channels are in use.
-pub fn update_of(n: u8, channel: u8, category: u8, header: u16, units: u16) -> Made
+pub fn update_of(
+    n: u8,
+    channel: u8,
+    category: u8,
+    header: u16,
+    units: u16,
+) -> Result<Frame, Refusal>
     ensures { result ≡ update_of n channel (numbered category) header units }
 {
-    let Numbered::Category(c) = packets::category_numbered(category) else {
-        return Made::OutOfRange;
-    };
+    let category = packets::category_numbered(category).ok_or(Refusal::Field)?;
     if header >= Header::RANGE {
-        return Made::OutOfRange;
+        return Err(Refusal::Field);
     }
     let counts = Counts {
-        h: Header((header % Header::RANGE) as u8),
+        h: Header::of(header),
         d: Data(units),
     };
     let f = Frame::Message(Message::Update {
         channel,
-        category: c,
+        category,
         counts,
     });
-    if f.answer(n) == 0 {
-        return Made::Frame(f);
-    }
-    Made::OutOfRange
-}
-
-// Its answer: 0, or 27.
-pub fn made_answer(m: Made) -> u8
-    ensures { result ≡ made_answer m }
-{
-    match m {
-        Made::Frame(_) => 0,
-        Made::OutOfRange => 27,
-    }
+    f.answer(n)?;
+    Ok(f)
 }

@@ -1,6 +1,6 @@
 -- What is on a line after each change, and that its array keeps its length.
 -- Its array has 16 places, as every value of the code has. Assumes nothing else.
-use Rattle.std.specs.Prelude.{if◌then◌else◌}
+use Rattle.std.specs.Prelude.{if◌then◌else◌, Some, None, Option}
 use Prim.Native.Nat.{ℕ, ◌+◌, ◌-◌, ◌<◌, ◌≤◌}
 use mathlib.Core.Path.{◌≡◌, refl, sym, ap, ◌∙◌}
 use mathlib.Core.Bool.{Bool, true, false, ◌&&◌}
@@ -16,7 +16,6 @@ use Rattle.basics.proofs.Walk.{kept, rest_cons}
 use Rattle.frames.specs.declared.Frame.{Frame}
 use Rattle.line.specs.declared.Slot.{Slot}
 use Rattle.line.specs.declared.Line.{Line}
-use Rattle.line.specs.declared.Front.{Front}
 use Rattle.line.specs.Line.{slot, blank, empty, on_line, is_full, put, front_of, rest_of}
 
 pub on-empty : on_line empty ≡ []
@@ -29,11 +28,11 @@ length-empty = refl
 abbrev oldest : Line → Frame
 oldest l = (get_or l.slots 0 blank).frame
 
-abbrev frame_in : Front → Frame
-frame_in (Front.Frame f) = f
-frame_in Front.Nothing = blank.frame
+abbrev frame_in : Option Frame → Frame
+frame_in (Some f) = f
+frame_in None = blank.frame
 
-apart : {A : Type 0} {f : Frame} → Front.Nothing ≡ Front.Frame f → A
+apart : {A : Type 0} {f : Frame} → None ≡ Some f → A
 apart e = let z : ◌≡◌ {A = ℕ} 0 1 = cc in absurd (omega arith)
 
 module _ (l : Line) (long : length l.slots ≡ 16) where
@@ -77,18 +76,18 @@ module _ (l : Line) (long : length l.slots ≡ 16) where
   -- ---- its oldest
 
   -- nothing is at the front where nothing is on the line
-  pub front-nothing : front_of l ≡ Front.Nothing → on_line l ≡ []
+  pub front-nothing : front_of l ≡ None → on_line l ≡ []
   front-nothing e = go (eqb l.len 0) refl e
     where
-      go : (t : Bool) → eqb l.len 0 ≡ t → (if t then Front.Nothing else Front.Frame (oldest l)) ≡ Front.Nothing → on_line l ≡ []
+      go : (t : Bool) → eqb l.len 0 ≡ t → (if t then None else Some (oldest l)) ≡ None → on_line l ≡ []
       go true t e = rw (eqb-true l.len 0 t)
       go false t e = apart (sym e)
 
   -- what is at the front comes first, then the rest
-  pub front-found : (f : Frame) → l.len ≤ 16 → front_of l ≡ Front.Frame f → on_line l ≡ slot f ∷ on_line (rest_of l)
+  pub front-found : (f : Frame) → l.len ≤ 16 → front_of l ≡ Some f → on_line l ≡ slot f ∷ on_line (rest_of l)
   front-found f room e = go (eqb l.len 0) refl e on-rest
     where
-      go : (t : Bool) → eqb l.len 0 ≡ t → (if t then Front.Nothing else Front.Frame (oldest l)) ≡ Front.Frame f
+      go : (t : Bool) → eqb l.len 0 ≡ t → (if t then None else Some (oldest l)) ≡ Some f
           → (0 < l.len → l.len ≤ 16 → on_line (rest_of l) ≡ drop 1 (on_line l)) → on_line l ≡ slot f ∷ on_line (rest_of l)
       go true t e rest = apart e
       go false t e rest =
@@ -98,7 +97,7 @@ module _ (l : Line) (long : length l.slots ≡ 16) where
           rest_cons l.slots l.len 0 blank here ∙ rw (← same, rest some room)
 
   -- and a line with a frame on it has one at its front
-  pub front_first : (f : Frame) (s : List Slot) → on_line l ≡ slot f ∷ s → front_of l ≡ Front.Frame f
+  pub front_first : (f : Frame) (s : List Slot) → on_line l ≡ slot f ∷ s → front_of l ≡ Some f
   front_first f s e =
       let many : 0 < length (on_line l) = omega (arith, ap length e) in
       let some : 0 < l.len = omega (arith, rw length-take at many) in

@@ -1,12 +1,11 @@
 -- One line of the link: what is on it, one frame more, its oldest frame and what is left without it.
 -- Assumes nothing.
-use Rattle.std.specs.Prelude.{ℕ, ◌+◌, ◌-◌, Bool, ◌&&◌, List, leb, ltb, eqb, take, drop, set, get_or, replicate, if◌then◌else◌}
+use Rattle.std.specs.Prelude.{ℕ, ◌+◌, ◌-◌, Bool, ◌&&◌, List, leb, ltb, eqb, take, drop, set, get_or, replicate, if◌then◌else◌, Some, None, Option}
 use Rattle.std.proofs.Math.Seq.{paste}
 use Rattle.counters.specs.Counters.{seq}
 use Rattle.frames.specs.declared.Frame.{Frame}
 use Rattle.line.specs.declared.Slot.{Slot}
 use Rattle.line.specs.declared.Line.{Line}
-use Rattle.line.specs.declared.Front.{Front}
 
 abbrev pub capacity : ℕ
 capacity = 16
@@ -36,8 +35,8 @@ unfoldable pub put : Line → Frame → Line
 put l f = if ltb l.len capacity then line (set l.slots l.len (slot f)) (l.len + 1) else l
 
 -- its oldest frame
-abbrev pub front_of : Line → Front
-front_of l = if eqb l.len 0 then Front.Nothing else Front.Frame (get_or l.slots 0 blank).frame
+abbrev pub front_of : Line → Option Frame
+front_of l = if eqb l.len 0 then None else Some (get_or l.slots 0 blank).frame
 
 -- without its oldest, the later ones moved down; as it was where there is none
 unfoldable pub rest_of : Line → Line

@@ -1,6 +1,6 @@
 // One line of the link: the frames on it in the order in which they were sent, oldest first. Lines never reorder.
 // Assumes nothing: every function takes all values, also a length past the end.
-#![tactic(auto)]
+#![tactic(auto, unfolding(crate::specs::Line::put, crate::specs::Line::rest_of))]
 
 ghost use Rattle.std.specs.Prelude.{◌≡◌};
 ghost use Rattle.line.specs.Line.{empty, is_full, put, front_of, rest_of};
@@ -9,24 +9,18 @@ use counters::Seq;
 use frames::Frame;
 use packets::Packet;
 
-// A place on the line: an array holds structs and no enums.
+// A place on the line: `on_line` and the theorems speak of places.
 #[derive(Clone, Copy)]
 pub struct Slot {
     pub frame: Frame,
 }
 
-// The first `len` slots are on the line.
+// The first `len` slots are on the line. An array and its length, since `len` may pass the end: `shape::in_shape` and the pair's
+// step answer 10 on just such values.
 #[derive(Clone, Copy)]
 pub struct Line {
     pub slots: [Slot; 16],
     pub len: usize,
-}
-
-// A frame, or none: the oldest on a line, or what a source of Send has for it.
-#[derive(Clone, Copy)]
-pub enum Front {
-    Frame(Frame),
-    Nothing,
 }
 
 impl Line {
@@ -58,46 +52,33 @@ impl Line {
     pub fn put(self, f: Frame) -> Line
         ensures { result ≡ put self f }
     {
-        let n = self.len;
-        if n < 16 {
-            let mut r = self;
-            r.slots[n] = Slot { frame: f };
-            r.len = n + 1;
-            return r;
+        let mut r = self;
+        if self.len < 16 {
+            r.slots[self.len] = Slot { frame: f };
+            r.len += 1;
         }
-        self
+        r
     }
 
     // The oldest frame, if there is one.
-    pub fn front(self) -> Front
+    pub fn front(self) -> Option<Frame>
         ensures { result ≡ front_of self }
     {
         if self.len == 0 {
-            return Front::Nothing;
+            return None;
         }
-        let s = self.slots[0];
-        let f = s.frame;
-        Front::Frame(f)
+        Some(self.slots[0].frame)
     }
 
     // Without its oldest frame, or as it was where there is none: the later ones move down.
     pub fn rest(self) -> Line
         ensures { result ≡ rest_of self }
     {
-        let n = self.len;
-        if n < 1 {
-            return self;
-        }
-        if n > 16 {
-            return self;
-        }
         let mut r = self;
-        let mut k = 0;
-        while 1 + k < n {
-            r.slots[k] = self.slots[1 + k];
-            k += 1;
+        if (1..=16).contains(&self.len) {
+            r.slots.copy_within(1..self.len, 0);
+            r.len -= 1;
         }
-        r.len = n - 1;
         r
     }
 }

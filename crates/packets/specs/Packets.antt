@@ -1,13 +1,12 @@
 -- Packets: their kinds, what is refused of them (12, 13, 14) and the units that they cost.
 -- Document 01, "Packets and their units", in its order. Assumes nothing.
-use Rattle.std.specs.Prelude.{ℕ, ◌+◌, ◌*◌, ◌/◌, Bool, true, false, ◌&&◌, ◌||◌, not, List, [], ◌∷◌, leb, ltb, eqb, get_or, if◌then◌else◌}
+use Rattle.std.specs.Prelude.{ℕ, ◌+◌, ◌*◌, ◌/◌, Bool, true, false, ◌&&◌, ◌||◌, not, List, [], ◌∷◌, leb, ltb, eqb, get_or, if◌then◌else◌, Some, None, Option}
 use Rattle.basics.specs.Choice.{first_of}
 use Rattle.basics.specs.Lists.{total}
 use Rattle.counters.specs.Counters.{headers, datas, counts}
 use Rattle.counters.specs.declared.Counts.{Counts}
 use Rattle.packets.specs.declared.Category.{Category}
 use Rattle.packets.specs.declared.Category.TheVariants.{Posted, NonPosted, Completion}
-use Rattle.packets.specs.declared.Numbered.{Numbered}
 use Rattle.packets.specs.declared.Packet.{Packet}
 use Rattle.packets.specs.declared.Rule.{Rule}
 
@@ -50,12 +49,12 @@ abbrev pub slot_of : ℕ → Category → ℕ
 slot_of channel c = 3 * channel + number_of c
 
 -- the category of a number; none for one over 2
-abbrev pub numbered : ℕ → Numbered
+abbrev pub numbered : ℕ → Option Category
 numbered c =
-    if eqb c 0 then Numbered.Category Posted
-    else if eqb c 1 then Numbered.Category NonPosted
-    else if eqb c 2 then Numbered.Category Completion
-    else Numbered.Nothing
+    if eqb c 0 then Some Posted
+    else if eqb c 1 then Some NonPosted
+    else if eqb c 2 then Some Completion
+    else None
 
 abbrev pub same : Category → Category → Bool
 same a b = eqb (number_of a) (number_of b)

@@ -1,28 +1,23 @@
 // Packets: kind, class, length and ident; what is refused of them and the units that they cost.
 // Assumes nothing: every function takes all values.
-#![tactic(auto)]
+#![tactic(auto, unfolding(crate::specs::Packets::rule_of, crate::specs::Packets::category_of, crate::specs::Packets::data_units, crate::specs::Packets::need_of, crate::specs::Packets::packet_answer))]
 
-ghost use Rattle.std.specs.Prelude.{◌≡◌};
-ghost use Rattle.packets.specs.Packets.{rule, rule_of, number_of, numbered, same, category_of, kind_answer, class_answer, length_answer, packet_answer, need_of};
+ghost use Rattle.std.specs.Prelude.{◌≡◌, ◌+◌, ◌*◌, ◌<◌};
+ghost use Rattle.answers.specs.Answers.{answer_of};
+ghost use Rattle.packets.specs.Packets.{rule, rule_of, number_of, slot_of, numbered, category_of, kind_answer, class_answer, length_answer, packet_answer, need_of};
 
+use answers::Refusal;
 use counters::{Counts, Data, Header};
 
 // Each category of each channel has counters of its own.
-#[derive(Clone, Copy)]
+#[derive(Clone, Copy, PartialEq, Eq)]
 pub enum Category {
     Posted,
     NonPosted,
     Completion,
 }
 
-// A category that came as a number.
-#[derive(Clone, Copy)]
-pub enum Numbered {
-    Category(Category),
-    Nothing,
-}
-
-// The ident stands for the contents.
+// The ident stands for the contents. Kind and class are numbers and no enums, since `answer` refuses those that no enum could hold.
 #[derive(Clone, Copy)]
 pub struct Packet {
     pub kind: u8,
@@ -74,61 +69,61 @@ impl Category {
     pub fn number(self) -> u8
         ensures { result ≡ number_of self }
     {
-        match self {
-            Category::Posted => 0,
-            Category::NonPosted => 1,
-            Category::Completion => 2,
-        }
+        self as u8
     }
 
-    pub fn is(self, other: Category) -> bool
-        ensures { result ≡ same self other }
+    // Where this category of a channel stands among those of all channels. A channel's number is a byte.
+    pub fn slot(self, channel: usize) -> usize
+        requires { channel < 256 }
+        ensures value { result ≡ slot_of channel self }
+        ensures upper_bound { result < 3 * channel + 3 }
     {
-        self.number() == other.number()
+        3 * channel + self.number() as usize
     }
 }
 
-pub fn category_numbered(c: u8) -> Numbered
+pub fn category_numbered(c: u8) -> Option<Category>
     ensures { result ≡ numbered c }
 {
     if c == 0 {
-        return Numbered::Category(Category::Posted);
+        return Some(Category::Posted);
     }
     if c == 1 {
-        return Numbered::Category(Category::NonPosted);
+        return Some(Category::NonPosted);
     }
     if c == 2 {
-        return Numbered::Category(Category::Completion);
+        return Some(Category::Completion);
     }
-    Numbered::Nothing
+    None
 }
 
-fn kind_answer(kind: u8) -> u8
-    ensures { result ≡ kind_answer kind }
+fn kind_answer(kind: u8) -> Result<(), Refusal>
+    ensures { answer_of result ≡ kind_answer kind }
 {
-    if 9 < kind { 12 } else { 0 }
+    if 9 < kind {
+        return Err(Refusal::Kind);
+    }
+    Ok(())
 }
 
-fn class_answer(kind: u8, class: u8) -> u8
-    ensures { result ≡ class_answer kind class }
+fn class_answer(kind: u8, class: u8) -> Result<(), Refusal>
+    ensures { answer_of result ≡ class_answer kind class }
 {
-    let zero_only = basics::both(2 <= kind, kind <= 5);
-    if 7 < class {
-        return 13;
-    }
-    if basics::both(zero_only, class != 0) {
-        return 13;
-    }
-    0
-}
-
-fn length_answer(rule: Rule, length: u16) -> u8
-    ensures { result ≡ length_answer rule length }
-{
-    if basics::both(rule.least <= length, length <= rule.most) {
-        0
+    let zero_only = (2..=5).contains(&kind);
+    if 7 < class || (zero_only && class != 0) {
+        Err(Refusal::Class)
     } else {
-        14
+        Ok(())
+    }
+}
+
+fn length_answer(rule: Rule, length: u16) -> Result<(), Refusal>
+    ensures { answer_of result ≡ length_answer rule length }
+{
+    if (rule.least..=rule.most).contains(&length) {
+        Ok(())
+    } else {
+        Err(Refusal::Length)
     }
 }
 
@@ -136,35 +131,31 @@ impl Packet {
     pub fn category(self) -> Category
         ensures { result ≡ category_of self }
     {
-        let rule = rule_of(self.kind);
-        let category = rule.category;
-        category
+        rule_of(self.kind).category
     }
 
-    // 12, 13 or 14 where a packet rule refuses it, in this order; else 0.
-    pub fn answer(self) -> u8
-        ensures { result ≡ packet_answer self }
+    // The first packet rule that refuses it: of its kind, its class, its length.
+    #[tactic(auto, using(answers::proofs::Outcomes::no_refusal_is_0), unfolding(crate::specs::Packets::packet_answer))]
+    pub fn answer(self) -> Result<(), Refusal>
+        ensures { answer_of result ≡ packet_answer self }
     {
-        let kind = kind_answer(self.kind);
-        let class = class_answer(self.kind, self.class);
-        let length = length_answer(rule_of(self.kind), self.length);
-        basics::first_of(kind, basics::first_of(class, length))
+        kind_answer(self.kind)?;
+        class_answer(self.kind, self.class)?;
+        length_answer(rule_of(self.kind), self.length)
     }
 
-    // The units that it costs. The sum of the whole and the rounded part does not wrap, whatever the length.
+    // The units that it costs.
     pub fn need(self) -> Counts
         ensures { result ≡ need_of self }
     {
-        let rule = rule_of(self.kind);
-        if rule.payload {
-            return Counts {
-                h: Header(1),
-                d: Data(self.length / 4 + (self.length % 4 + 3) / 4),
-            };
-        }
+        let units = if rule_of(self.kind).payload {
+            self.length.div_ceil(4)
+        } else {
+            0
+        };
         Counts {
             h: Header(1),
-            d: Data(0),
+            d: Data(units),
         }
     }
 }

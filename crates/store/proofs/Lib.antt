@@ -1,2 +1,3 @@
 pub mod Categories
+pub mod Chains
 pub mod Held

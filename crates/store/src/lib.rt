@@ -1,16 +1,16 @@
 // A bounded list of packets in the order of their age, oldest first: a send queue, a receive buffer or a replay buffer.
 // Assumes nothing: every function takes all values, also a length past the end.
-#![tactic(auto)]
+#![tactic(auto, unfolding(crate::specs::Store::pushed, crate::specs::Store::without))]
 
-ghost use Rattle.std.specs.Prelude.{◌≡◌, ◌≤◌, ◌+◌, length, if◌then◌else◌};
+ghost use Rattle.std.specs.Prelude.{◌≡◌, ◌≤◌, ◌+◌, length};
 ghost use Rattle.basics.specs.Lists.{find};
 ghost use Rattle.packets.specs.Packets.{data_together};
 ghost use Rattle.store.specs.Store.{no_packet, empty, held, at, pushed, without, removed, released, is_of, of_category};
 
-use basics::Found;
 use packets::{Category, Packet};
 
 // The first `len` items are held. Its largest use has 48: a receive buffer with 16 header units in each of three categories.
+// An array and its length, since `len` may pass the end: `shape::in_shape` and the steps answer 10 on just such values.
 #[derive(Clone, Copy)]
 pub struct Packets {
     pub items: [Packet; 48],
@@ -32,15 +32,7 @@ fn no_packet() -> Packet
 pub fn is_of(p: Packet, c: Category) -> bool
     ensures { result ≡ is_of c p }
 {
-    p.category().is(c)
-}
-
-// The units, if this packet is of category c. A function, so that a loop's body has no branch.
-fn units_if(p: Packet, c: Category, units: usize) -> usize
-    ensures value { result ≡ (if is_of c p then units else 0) }
-    ensures upper_bound { result ≤ units }
-{
-    if is_of(p, c) { units } else { 0 }
+    p.category() == c
 }
 
 impl Packets {
@@ -58,54 +50,45 @@ impl Packets {
         ensures value { result ≡ length (held self) }
         ensures upper_bound { result ≤ 48 }
     {
-        if self.len < 48 { self.len } else { 48 }
+        self.len.min(48)
+    }
+
+    // What it holds, oldest first.
+    pub fn held(&self) -> &[Packet]
+        ensures value { result.now ≡ held self.now }
+        ensures upper_bound { length result.now ≤ 48 }
+    {
+        &self.items[..self.size()]
     }
 
     // The packet at place i, oldest first; past the end a packet of zeros.
     pub fn at(self, i: usize) -> Packet
         ensures { result ≡ at self i }
     {
-        if i < self.size() {
-            return self.items[i];
-        }
-        no_packet()
+        self.held().get(i).copied().unwrap_or(no_packet())
     }
 
     // With one more at the end, or as it was where it is full.
     pub fn push(self, p: Packet) -> Packets
         ensures { result ≡ pushed self p }
     {
-        let n = self.len;
-        if n < 48 {
-            let mut r = self;
-            r.items[n] = p;
-            r.len = n + 1;
-            return r;
+        let mut r = self;
+        if self.len < 48 {
+            r.items[self.len] = p;
+            r.len += 1;
         }
-        self
+        r
     }
 
     // Without the packets from place a up to place b: the later ones move down. As it was where it does not hold so many.
     fn without(self, a: usize, b: usize) -> Packets
         ensures { result ≡ without self a b }
     {
-        let n = self.len;
-        if a > b {
-            return self;
-        }
-        if b > n {
-            return self;
-        }
-        if n > 48 {
-            return self;
-        }
         let mut r = self;
-        let mut k = 0;
-        while b + k < n {
-            r.items[a + k] = self.items[b + k];
-            k += 1;
+        if a <= b && b <= self.len && self.len <= 48 {
+            r.items.copy_within(b..self.len, a);
+            r.len -= b - a;
         }
-        r.len = n - (b - a);
         r
     }
 
@@ -130,46 +113,24 @@ impl Packets {
     pub fn count_of(self, c: Category) -> usize
         ensures { result ≡ length (of_category c (held self)) }
     {
-        let n = self.size();
-        let mut m = 0;
-        let mut i = 0;
-        while i < n {
-            let p = self.items[i];
-            m += units_if(p, c, 1);
-            i += 1;
-        }
-        m
+        self.held().iter().filter(|p| is_of(**p, c)).count()
     }
 
     // The data units of its packets of category c together.
     pub fn data_of(self, c: Category) -> usize
         ensures { result ≡ data_together (of_category c (held self)) }
     {
-        let n = self.size();
-        let mut m = 0;
-        let mut i = 0;
-        while i < n {
-            let p = self.items[i];
-            let need = p.need();
-            m += units_if(p, c, need.d.0 as usize);
-            i += 1;
-        }
-        m
+        self.held()
+            .iter()
+            .filter(|p| is_of(**p, c))
+            .map(|p| usize::from(p.need().d.0))
+            .sum()
     }
 
     // The place of its oldest packet of category c.
-    pub fn oldest(self, c: Category) -> Found
+    pub fn oldest(self, c: Category) -> Option<usize>
         ensures { result ≡ find (is_of c) (held self) 0 }
     {
-        let n = self.size();
-        let mut i = 0;
-        while i < n {
-            let p = self.items[i];
-            if is_of(p, c) {
-                return Found::At(i);
-            }
-            i += 1;
-        }
-        Found::Nothing
+        self.held().iter().position(|p| is_of(*p, c))
     }
 }

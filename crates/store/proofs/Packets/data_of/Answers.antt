@@ -1,22 +1,21 @@
--- `store::Packets::data_of` meets its contract. The loop's invariant: what was counted and what is left make the whole.
+-- `store::Packets::data_of` meets its contract: the sum that the chain makes.
 -- Assumes nothing.
-use native.Mathlib.Omega.{arith}
-use Rattle.basics.proofs.Walk.{total-next, total-end}
+use Rattle.std.proofs.Common.{rules, tests, ap, ◌∙◌}
+use Rattle.std.specs.Prelude.{◌≡◌, sum_by, filter}
+use Rattle.std.proofs.lemmas.Iterator.{YieldsList-from_slice, YieldsList-from_map}
+use Rattle.std.proofs.lemmas.Iterator.Consumers.{YieldsList-from_filter, sum_by_from_yields_List}
+use Rattle.std.specs.Iterator.Adapters.{filter_callee}
+use Rattle.store.specs.Store.{is_of}
 use Rattle.packets.specs.Packets.{data_units, need_of}
-use Rattle.store.specs.Store.{held, no_packet}
-use Rattle.store.proofs.Categories.{share, total_of}
+use Rattle.store.proofs.Chains.{std_filter, std_sum}
 use Rattle.store.proofs.Packets.data_of.Goals as goal
 
-pub loop-i-init : goal.loop-i-init
-loop-i-init c = (omega arith, omega arith, omega arith)
-
-pub loop-i-preserved : goal.loop-i-preserved
-unfolding need_of
-loop-i-preserved c =
-    let step = total-next c.args.self.items c.args.self.len c.loop-i.i no_packet (omega (arith, c.size-n.ensures.value)) (share data_units c.args.c) in
-    (omega arith, omega arith, omega (arith, step, rw (c.need-need.ensures, need_of) at c.units_if-m.ensures.value, c.loop-i.invariant.2))
-
 pub returns : goal.returns
+unfolding need_of
 returns c =
-    let e = total-end (held c.args.self) c.loop-i.i (omega (arith, c.size-n.ensures.value)) (share data_units c.args.c) in
-    omega (arith, e, total_of data_units c.args.c (held c.args.self))
+    let e : c.sum.result ≡ sum_by data_units (filter (is_of c.args.c) c.held.result.now) =
+    sum_by_from_yields_List data_units _ _ _ c.sum.ensures.ran
+    (YieldsList-from_map _ data_units
+    (YieldsList-from_filter _ (is_of c.args.c) (YieldsList-from_slice c.held.result.now cc) (ap filter_callee c.map.ensures.source ∙ c.filter.ensures.closure) (λ x b q k. search (rules, tests)))
+    c.map.ensures.closure (λ x r q k. search (rules, tests))) in
+    e ∙ rw (c.held.ensures.value, std_filter) (std_sum data_units _)

@@ -1,26 +1,15 @@
--- `store::Packets::oldest` meets its contract. The loop's invariant: what is found from i on is what is found from the front.
+-- `store::Packets::oldest` meets its contract: the place that the chain finds.
 -- Assumes nothing.
-use native.Mathlib.Omega.{arith}
-use mathlib.Core.Path.{refl, sym, ◌∙◌}
-use Rattle.basics.proofs.Walk.{find-here, find-next, find-end}
+use Rattle.std.proofs.Common.{rules, tests}
+use Rattle.std.specs.Prelude.{◌≡◌, position}
+use Rattle.std.proofs.lemmas.Iterator.{YieldsList-from_slice}
+use Rattle.std.proofs.lemmas.Iterator.Search.{position_from_yields_List}
 use Rattle.store.specs.Store.{held, is_of}
+use Rattle.store.proofs.Chains.{std_position}
 use Rattle.store.proofs.Packets.oldest.Goals as goal
-
-pub loop-i-init : goal.loop-i-init
-loop-i-init c = (omega arith, refl)
-
-pub returns-then-is_of : goal.returns-then-is_of
-returns-then-is_of c =
-    sym (c.loop-i.invariant.1
-    ∙ find-here c.args.self.items c.args.self.len c.loop-i.i _ (omega (arith, c.size-n.ensures.value)) (is_of c.args.c) (sym c.is_of.ensures ∙ c.if-is_of.true))
-
-pub loop-i-preserved : goal.loop-i-preserved
-loop-i-preserved c = (
-  omega arith,
-  c.loop-i.invariant.1
-      ∙ find-next c.args.self.items c.args.self.len c.loop-i.i _ (omega (arith, c.size-n.ensures.value)) (is_of c.args.c) (sym c.is_of.ensures ∙ c.if-is_of.false),
-)
 
 pub returns : goal.returns
 returns c =
-    sym (c.loop-i.invariant.1 ∙ find-end (held c.args.self) c.loop-i.i (omega (arith, c.size-n.ensures.value)) (is_of c.args.c))
+    let e : c.position.result ≡ position (is_of c.args.c) c.held.result.now =
+    position_from_yields_List (is_of c.args.c) _ _ c.position.result c.position.ensures.ran (YieldsList-from_slice _ c.iter.ensures.rest) (λ x b q k. search (rules, tests)) in
+    rw e (rw c.held.ensures.value (std_position (is_of c.args.c) (held c.args.self)))

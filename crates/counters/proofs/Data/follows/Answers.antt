@@ -1,8 +1,0 @@
--- `counters::Data::follows` meets its contract: the difference, then the test.
--- Assumes nothing.
-use Rattle.counters.specs.Wrapped.{within}
-use Rattle.counters.proofs.Data.follows.Goals as goal
-
-pub returns : goal.returns
-unfolding within
-returns c = simp (within, c.sub.ensures)
