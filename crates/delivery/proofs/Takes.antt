@@ -1,15 +1,13 @@
 -- The ways through an arrival in sequence and through Take, over plain values: each way's answer is the definition's.
 -- Assumes nothing.
+use Rattle.std.specs.Prelude.{Some, None, Option, ℕ}
 use Prim.Native.Nat.{ℕ, ◌≤◌, ◌<◌}
 use mathlib.Core.Path.{◌≡◌}
 use mathlib.Core.Bool.{Bool, true, false}
 use borrow.Author.Tests.{le-leb, lt-leb}
 use Rattle.basics.specs.Lists.{find}
-use Rattle.basics.specs.declared.Found.{Found}
-use Rattle.basics.specs.declared.Found.TheVariants.{At, Nothing}
 use Rattle.packets.specs.declared.Category.{Category}
 use Rattle.packets.specs.declared.Category.TheVariants.{Posted}
-use Rattle.packets.specs.declared.Numbered.{Numbered}
 use Rattle.packets.specs.Packets.{numbered}
 use Rattle.store.specs.Store.{held, at, is_of}
 use Rattle.setup.specs.Setup.{channels}
@@ -18,12 +16,12 @@ use Rattle.receiver.specs.Receiver.{inbox_at}
 use Rattle.delivery.specs.Delivery.{got, handed_out, is_before, taken_at, taken, taken_by, take_of}
 
 -- Take by category, at what was found
-module _ (r : Receiver) (channel : ℕ) (c : Category) (f : Found) (found : f ≡ find (is_of c) (held (inbox_at r channel)) 0) where
-  pub none_waits : f ≡ Nothing → got r 21 0 ≡ taken r channel c
+module _ (r : Receiver) (channel : ℕ) (c : Category) (f : Option ℕ) (found : f ≡ find (is_of c) (held (inbox_at r channel)) 0) where
+  pub none_waits : f ≡ None → got r 21 0 ≡ taken r channel c
   unfolding taken_at
   none_waits e = rw (← found, e)
 
-  module _ (place : ℕ) (is : f ≡ At place) (b : Bool)
+  module _ (place : ℕ) (is : f ≡ Some place) (b : Bool)
       (before : b ≡ is_before (find (is_of Posted) (held (inbox_at r channel)) 0) place) where
     pub posted_waits : b ≡ true → got r 22 0 ≡ taken r channel c
     unfolding taken_at
@@ -44,6 +42,6 @@ module _ (r : Receiver) (n channel category : ℕ) where
     unfolding take_of
     past_all h = simp (take_of, lt-leb n channel used, le-leb channels channel h)
 
-    pub by_category : channel < channels → (x : Numbered) → x ≡ numbered category → taken_by r channel x ≡ take_of r n channel category
+    pub by_category : channel < channels → (x : Option Category) → x ≡ numbered category → taken_by r channel x ≡ take_of r n channel category
     unfolding take_of
     by_category h x e = simp (take_of, lt-leb n channel used, lt-leb channels channel h, e)

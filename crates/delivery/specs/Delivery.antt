@@ -1,9 +1,7 @@
 -- What a packet does at the receiving half when it arrives whole or damaged, and Take.
 -- Assumes nothing.
-use Rattle.std.specs.Prelude.{ℕ, Bool, false, not, leb, ltb, eqb, set, if◌then◌else◌}
+use Rattle.std.specs.Prelude.{ℕ, Bool, false, not, leb, ltb, eqb, set, if◌then◌else◌, Some, None, Option, Result, Ok, Err}
 use Rattle.basics.specs.Lists.{find}
-use Rattle.basics.specs.declared.Found.{Found}
-use Rattle.basics.specs.declared.Found.TheVariants.{At, Nothing}
 use Rattle.counters.specs.declared.Seq.{Seq}
 use Rattle.counters.specs.declared.Order.{Order}
 use Rattle.counters.specs.Counters.{order_of}
@@ -11,16 +9,33 @@ use Rattle.credits.specs.Credits.{room_answer, received, given_back}
 use Rattle.packets.specs.declared.Packet.{Packet}
 use Rattle.packets.specs.declared.Category.{Category}
 use Rattle.packets.specs.declared.Category.TheVariants.{Posted}
-use Rattle.packets.specs.declared.Numbered.{Numbered}
 use Rattle.packets.specs.Packets.{numbered, category_of, need_of, slot_of}
 use Rattle.store.specs.Store.{held, at, pushed, removed, is_of}
 use Rattle.setup.specs.Setup.{channels}
 use Rattle.receiver.specs.declared.Receiver.{Receiver}
-use Rattle.delivery.specs.declared.Got.{Got}
+use Rattle.answers.specs.declared.Refusal.{Refusal}
+use Rattle.answers.specs.declared.After.{After}
+use Rattle.answers.specs.Answers.{number_of}
 use Rattle.receiver.specs.Receiver.{receiver, inbox_at, room_at, with_reply, after_accepted, after_duplicate, after_gap}
+
+-- the half after it got a packet or gave one, with answer and detail
+pub record Got : Type 0 where
+  pub receiver : Receiver
+  pub answer : ℕ
+  pub detail : ℕ
 
 abbrev pub got : Receiver → ℕ → ℕ → Got
 got r answer detail = record { receiver = r; answer = answer; detail = detail }
+
+-- a refusal leaves it as it was, with detail 0
+abbrev pub got_of : Receiver → Result (After Receiver) Refusal → Got
+got_of r (Ok x) = got x.state 0 x.detail
+got_of r (Err refusal) = got r (number_of refusal) 0
+
+-- the same of a half that is changed in place, where what is given is the detail
+abbrev pub got_by : Receiver → Result ℕ Refusal → Got
+got_by r (Ok detail) = got r 0 detail
+got_by r (Err refusal) = got r (number_of refusal) 0
 
 -- ---- a packet that arrives whole, on this channel
 
@@ -63,15 +78,15 @@ handed_out r channel c place =
     r.reply
 
 -- what was found stands before this place
-abbrev pub is_before : Found → ℕ → Bool
-is_before (At i) place = ltb i place
-is_before Nothing place = false
+abbrev pub is_before : Option ℕ → ℕ → Bool
+is_before (Some i) place = ltb i place
+is_before None place = false
 
 -- 21: none waiting; 22: not posted, and a posted packet that arrived earlier waits on that channel;
 -- for a posted one the first posted is itself, so 22 is never given
-unfoldable pub taken_at : Receiver → ℕ → Category → Found → Got
-taken_at r channel c Nothing = got r 21 0
-taken_at r channel c (At place) =
+unfoldable pub taken_at : Receiver → ℕ → Category → Option ℕ → Got
+taken_at r channel c None = got r 21 0
+taken_at r channel c (Some place) =
     if is_before (find (is_of Posted) (held (inbox_at r channel)) 0) place then got r 22 0
     else got (handed_out r channel c place) 0 (at (inbox_at r channel) place).ident
 
@@ -79,9 +94,9 @@ taken_at r channel c (At place) =
 abbrev pub taken : Receiver → ℕ → Category → Got
 taken r channel c = taken_at r channel c (find (is_of c) (held (inbox_at r channel)) 0)
 
-abbrev pub taken_by : Receiver → ℕ → Numbered → Got
-taken_by r channel (Numbered.Category c) = taken r channel c
-taken_by r channel Numbered.Nothing = got r 20 0
+abbrev pub taken_by : Receiver → ℕ → Option Category → Got
+taken_by r channel (Some c) = taken r channel c
+taken_by r channel None = got r 20 0
 
 -- 20: channel not below n, or category over 2
 unfoldable pub take_of : Receiver → ℕ → ℕ → ℕ → Got

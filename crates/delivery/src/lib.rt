@@ -2,182 +2,130 @@
 // Assumes nothing: every function takes all values.
 #![tactic(auto)]
 
-ghost use Rattle.std.specs.Prelude.{◌≡◌, ◌<◌};
-ghost use Rattle.packets.specs.Packets.{numbered, slot_of};
-ghost use Rattle.setup.specs.Setup.{channels, per_end};
+ghost use Rattle.std.specs.Prelude.{◌≡◌, ◌<◌, OnErr};
+ghost use Rattle.packets.specs.Packets.{numbered};
+ghost use Rattle.setup.specs.Setup.{channels};
 ghost use Rattle.receiver.specs.Receiver.{with_reply};
-ghost use Rattle.delivery.specs.Delivery.{got, stored, in_sequence, arrives, damaged, handed_out, is_before, taken, take_of};
+ghost use Rattle.delivery.specs.Delivery.{got, got_of, got_by, stored, in_sequence, arrives, damaged, is_before, take_of};
 
-use basics::Found;
+use answers::{After, Refusal};
 use counters::{Order, Seq};
 use credits::Room;
-use packets::{Category, Numbered, Packet};
+use packets::{Category, Packet};
 use receiver::{Receiver, Reply};
 use setup::CHANNELS;
 use store::Packets;
 
-// The half after it got a packet or gave one, with answer and detail.
-#[derive(Clone, Copy)]
-pub struct Got {
-    pub receiver: Receiver,
-    pub answer: u8,
-    pub detail: u32,
-}
-
-// The place of a category of a channel among the rooms.
-fn slot_of(channel: usize, c: Category) -> usize
-    requires { channel < channels }
-    ensures value { result ≡ slot_of channel c }
-    ensures upper_bound { result < per_end }
-{
-    3 * channel + c.number() as usize
-}
-
 fn with_reply(r: Receiver, reply: Reply) -> Receiver
     ensures { result ≡ with_reply r reply }
 {
-    let mut x = r;
-    x.reply = reply;
-    x
-}
-
-fn refused(r: Receiver, answer: u8) -> Got
-    ensures { result ≡ got r answer 0 }
-{
-    Got {
-        receiver: r,
-        answer,
-        detail: 0,
-    }
+    Receiver { reply, ..r }
 }
 
 // The packet is dropped: all that changes is the reply.
-fn dropped(r: Receiver, reply: Reply, detail: u32) -> Got
-    ensures { result ≡ got (with_reply r reply) 0 detail }
+fn dropped(r: Receiver, reply: Reply, detail: u32) -> After<Receiver>
+    ensures { got_of r (Ok result) ≡ got (with_reply r reply) 0 detail }
 {
-    let receiver = with_reply(r, reply);
-    Got {
-        receiver,
-        answer: 0,
+    After {
+        state: with_reply(r, reply),
         detail,
     }
 }
 
 // Accepted: the packet is stored and the received counts grow.
+#[tactic(auto, unfolding(crate::specs::Delivery::stored))]
 fn stored(r: Receiver, channel: usize, p: Packet) -> Receiver
     requires { channel < channels }
     ensures { result ≡ stored r channel p }
 {
-    let slot = slot_of(channel, p.category());
-    let inbox = r.inbox(channel).push(p);
-    let room = r.room(slot).receive(p.need());
-    let reply = r.reply.after_accepted();
+    let slot = p.category().slot(channel);
     let mut x = r;
-    x.inboxes[channel] = inbox;
-    x.rooms[slot] = room;
-    x.reply = reply;
+    x.inboxes[channel] = r.inbox(channel).push(p);
+    x.rooms[slot] = r.room(slot).receive(p.need());
+    x.reply = r.reply.after_accepted();
     x
 }
 
 // The packet that is next: accepted, or over the free room.
-fn in_sequence(r: Receiver, channel: usize, p: Packet) -> Got
-    ensures { result ≡ in_sequence r channel p }
+#[tactic(auto, using(answers::proofs::Outcomes::no_refusal_is_0), unfolding(crate::specs::Delivery::in_sequence, credits::specs::Credits::room_answer))]
+fn in_sequence(r: Receiver, channel: usize, p: Packet) -> Result<After<Receiver>, Refusal>
+    ensures { got_of r result ≡ in_sequence r channel p }
 {
     if channel >= CHANNELS {
-        return refused(r, 26);
+        return Err(Refusal::OverRoom);
     }
-    let slot = slot_of(channel, p.category());
-    if r.room(slot).room_answer(p.need()) != 0 {
-        return refused(r, 26);
-    }
-    let receiver = stored(r, channel, p);
-    Got {
-        receiver,
-        answer: 0,
+    let slot = p.category().slot(channel);
+    r.room(slot).room_answer(p.need())?;
+    Ok(After {
+        state: stored(r, channel, p),
         detail: 1,
-    }
+    })
 }
 
 // A packet arrives whole, on this channel.
-pub fn arrive(r: Receiver, channel: usize, number: Seq, p: Packet) -> Got
-    ensures { result ≡ arrives r channel number p }
+#[tactic(auto, unfolding(crate::specs::Delivery::arrives))]
+pub fn arrive(
+    r: Receiver,
+    channel: usize,
+    number: Seq,
+    p: Packet,
+) -> Result<After<Receiver>, Refusal>
+    ensures { got_of r result ≡ arrives r channel number p }
 {
     let reply = r.reply;
     match reply.next_receive.order(number) {
         Order::Next => in_sequence(r, channel, p),
-        Order::Duplicate => dropped(r, reply.after_duplicate(), 2),
-        Order::OutOfOrder => dropped(r, reply.after_gap(), 3),
+        Order::Duplicate => Ok(dropped(r, reply.after_duplicate(), 2)),
+        Order::OutOfOrder => Ok(dropped(r, reply.after_gap(), 3)),
     }
 }
 
 // A packet arrives damaged.
+#[tactic(auto, unfolding(crate::specs::Delivery::damaged))]
 pub fn damage(r: Receiver) -> Receiver
     ensures { result ≡ damaged r }
 {
-    let reply = r.reply.after_gap();
-    with_reply(r, reply)
+    with_reply(r, r.reply.after_gap())
 }
 
 // Does what was found stand before this place?
-pub fn is_before(f: Found, place: usize) -> bool
+pub fn is_before(f: Option<usize>, place: usize) -> bool
     ensures { result ≡ is_before f place }
 {
     match f {
-        Found::At(i) => i < place,
-        Found::Nothing => false,
+        Some(i) => i < place,
+        None => false,
     }
 }
 
-// The packet at this place leaves: its units are free again, and their update is marked.
-fn handed_out(r: Receiver, channel: usize, c: Category, place: usize) -> Receiver
-    requires { channel < channels }
-    ensures { result ≡ handed_out r channel c place }
+// Hands out the oldest packet of a channel and category, where n channels are in use, and gives its ident. Its units are free again, and their update is marked.
+#[tactic(auto, unfolding(crate::specs::Delivery::take_of, crate::specs::Delivery::taken_at, crate::specs::Delivery::handed_out))]
+pub fn hand_out(r: &mut Receiver, n: u8, channel: u8, category: u8) -> Result<u32, Refusal>
+    ensures handed { got_by r.new result ≡ take_of r.old n channel category }
+    ensures refused { OnErr result (r.new ≡ r.old) }
 {
-    let inbox = r.inbox(channel);
-    let p = inbox.at(place);
-    let slot = slot_of(channel, c);
-    let room = r.room(slot).give_back(p.need());
-    let rest = inbox.remove(place);
-    let mut x = r;
-    x.inboxes[channel] = rest;
-    x.rooms[slot] = room;
-    x
-}
-
-// Takes the oldest packet of this category of a channel.
-fn take_of(r: Receiver, channel: usize, c: Category) -> Got
-    requires { channel < channels }
-    ensures { result ≡ taken r channel c }
-{
-    let inbox = r.inbox(channel);
-    let Found::At(place) = inbox.oldest(c) else {
-        return refused(r, 21);
-    };
-    if is_before(inbox.oldest(Category::Posted), place) {
-        return refused(r, 22);
-    }
-    let p = inbox.at(place);
-    let receiver = handed_out(r, channel, c, place);
-    Got {
-        receiver,
-        answer: 0,
-        detail: p.ident,
-    }
-}
-
-// Take by channel and category, where n channels are in use.
-pub fn take(r: Receiver, n: u8, channel: u8, category: u8) -> Got
-    ensures { result ≡ take_of r n channel category }
-{
-    if channel >= n {
-        return refused(r, 20);
-    }
     let k = channel as usize;
-    if k >= CHANNELS {
-        return refused(r, 20);
+    if channel >= n || k >= CHANNELS {
+        return Err(Refusal::Channel);
     }
-    let Numbered::Category(c) = packets::category_numbered(category) else {
-        return refused(r, 20);
-    };
-    take_of(r, k, c)
+    let c = packets::category_numbered(category).ok_or(Refusal::Channel)?;
+    let inbox = r.inboxes[k];
+    let place = inbox.oldest(c).ok_or(Refusal::NoneWaits)?;
+    if is_before(inbox.oldest(Category::Posted), place) {
+        return Err(Refusal::PostedWaits);
+    }
+    let p = inbox.at(place);
+    let slot = c.slot(k);
+    r.inboxes[k] = inbox.remove(place);
+    r.rooms[slot] = r.rooms[slot].give_back(p.need());
+    Ok(p.ident)
+}
+
+// Take, by value: the half after a packet is handed out, with its ident.
+pub fn take(r: Receiver, n: u8, channel: u8, category: u8) -> Result<After<Receiver>, Refusal>
+    ensures { got_of r result ≡ take_of r n channel category }
+{
+    let mut state = r;
+    let detail = hand_out(&mut state, n, channel, category)?;
+    Ok(After { state, detail })
 }

@@ -1,6 +1,6 @@
 -- What a link message leaves at the sending half: what each answer says, what is held, and that the arrays keep their lengths.
 -- Where it is said, the arrays have their lengths (`Arrays`), as every value of the code has. Assumes nothing else.
-use Rattle.std.specs.Prelude.{if◌then◌else◌}
+use Rattle.std.specs.Prelude.{if◌then◌else◌, Some, None}
 use Prim.Native.Nat.{ℕ, ◌-◌, ◌+◌, ◌<◌, ◌≤◌}
 use mathlib.Core.Path.{◌≡◌, refl, sym, ap, ◌∙◌}
 use mathlib.Core.Logic.{◌≢◌}
@@ -11,7 +11,6 @@ use lib.Dec.{leb, ltb, eqb}
 use lib.ListN.{drop, length, length-set}
 use lib.Seq.{get_or-set_same, get_or-set_other}
 use Rattle.packets.specs.Packets.{slot_of}
-use Rattle.basics.specs.declared.Found.TheVariants.{At, Nothing}
 use Rattle.basics.proofs.Branches.{by_test}
 use Rattle.basics.proofs.Finds.{place_of, apart}
 use Rattle.counters.specs.declared.Counts.{Counts}
@@ -26,7 +25,7 @@ use Rattle.store.specs.Store.{capacity, held}
 use Rattle.store.proofs.Held.{held-released, len_released, length-released}
 use Rattle.setup.specs.Setup.{channels}
 use Rattle.sender.specs.declared.Sender.{Sender}
-use Rattle.sender.specs.declared.Told.{Told}
+use Rattle.sender.specs.Sender.{Told}
 use Rattle.sender.specs.Sender.{credit_at, with_credit, with_replay, begun, told}
 use Rattle.sender.proofs.Arrays.{Arrays, arrays_replay}
 use Rattle.sender.proofs.Slots.{slot_below}
@@ -77,10 +76,10 @@ module _ (s : Sender) (a : Arrays s) (number : Seq) where
       }
 
 -- a running replay's next packet is one of those left
-pub moved-within : (k left i j : ℕ) → i < left + k → moved k left (At i) ≡ At j → j < left
+pub moved-within : (k left i j : ℕ) → i < left + k → moved k left (Some i) ≡ Some j → j < left
 moved-within k left i j h e = go (leb k i) refl (eqb left 0) refl e
   where
-    go : (b : Bool) → leb k i ≡ b → (z : Bool) → eqb left 0 ≡ z → (if b then At (i - k) else if z then Nothing else At 0) ≡ At j → j < left
+    go : (b : Bool) → leb k i ≡ b → (z : Bool) → eqb left 0 ≡ z → (if b then Some (i - k) else if z then None else Some 0) ≡ Some j → j < left
     go true t z u e = let x : i - k ≡ j = ap place_of e in omega (arith, leb-true k i t)
     go false t true u e = apart j e
     go false t false u e = let x : ◌≡◌ {A = ℕ} 0 j = ap place_of e in omega (arith, eqb-false left 0 u)

@@ -1,9 +1,7 @@
 -- What a link message does at the sending half of an end. Document 01, "What an arrival does", its last two paragraphs.
 -- Assumes nothing.
-use Rattle.std.specs.Prelude.{ℕ, ◌-◌, Bool, true, false, ◌&&◌, leb, ltb, eqb, if◌then◌else◌}
+use Rattle.std.specs.Prelude.{ℕ, ◌-◌, Bool, true, false, ◌&&◌, leb, ltb, eqb, if◌then◌else◌, Some, None, Option}
 use Rattle.packets.specs.Packets.{slot_of}
-use Rattle.basics.specs.declared.Found.{Found}
-use Rattle.basics.specs.declared.Found.TheVariants.{At, Nothing}
 use Rattle.counters.specs.declared.Counts.{Counts}
 use Rattle.counters.specs.declared.Seq.{Seq}
 use Rattle.counters.specs.Wrapped.{minus}
@@ -14,7 +12,7 @@ use Rattle.frames.specs.declared.Message.{Message}
 use Rattle.store.specs.Store.{released}
 use Rattle.setup.specs.Setup.{channels}
 use Rattle.sender.specs.declared.Sender.{Sender}
-use Rattle.sender.specs.declared.Told.{Told}
+use Rattle.sender.specs.Sender.{Told}
 use Rattle.sender.specs.Sender.{replay, sender, credit_at, with_credit, with_replay, begun, told}
 
 -- ---- an accepted Ack or Nak number
@@ -25,9 +23,9 @@ releases s number = minus seq_range number.0 s.acked.0
 
 -- k packets are released and `left` are left: a running replay stays at its next packet;
 -- if that one is released it goes on at the oldest left, or ends if none is left
-abbrev pub moved : ℕ → ℕ → Found → Found
-moved k left Nothing = Nothing
-moved k left (At i) = if leb k i then At (i - k) else if eqb left 0 then Nothing else At 0
+abbrev pub moved : ℕ → ℕ → Option ℕ → Option ℕ
+moved k left None = None
+moved k left (Some i) = if leb k i then Some (i - k) else if eqb left 0 then None else Some 0
 
 -- the replay count is set to 0
 unfoldable pub acknowledged : Sender → Seq → Sender

@@ -3,13 +3,14 @@
 #![tactic(auto)]
 
 ghost use Rattle.std.specs.Prelude.{◌≡◌};
+ghost use Rattle.sender.specs.Sender.{told_of};
 ghost use Rattle.hearing.specs.Hearing.{releases, moved, acknowledged, again, limited, answered, hears};
 
-use basics::Found;
-use counters::{Counts, Seq};
+use answers::Refusal;
+use counters::{Counts, Seq, Wrapped};
 use frames::Message;
 use packets::Category;
-use sender::{Replay, Sender, Told};
+use sender::Sender;
 use setup::CHANNELS;
 
 // How many packets an accepted number releases.
@@ -20,40 +21,33 @@ fn releases(s: Sender, number: Seq) -> usize
 }
 
 // Where a running replay goes on after k packets are released and `left` are left.
-pub fn moved(k: usize, left: usize, at: Found) -> Found
+pub fn moved(k: usize, left: usize, at: Option<usize>) -> Option<usize>
     ensures { result ≡ moved k left at }
 {
-    let Found::At(i) = at else {
-        return Found::Nothing;
+    let Some(i) = at else {
+        return None;
     };
     if k <= i {
-        return Found::At(i - k);
+        return Some(i - k);
     }
     if left == 0 {
-        return Found::Nothing;
+        return None;
     }
-    Found::At(0)
+    Some(0)
 }
 
 // All up to an accepted number are released; the replay count is set to 0.
+#[tactic(auto, unfolding(crate::specs::Hearing::acknowledged))]
 fn acknowledged(s: Sender, number: Seq) -> Sender
     ensures { result ≡ acknowledged s number }
 {
     let k = releases(s, number);
     let buffer = s.buffer.release(k);
-    let running = s.replay;
-    let next = running.at;
-    let at = moved(k, buffer.len, next);
-    let retrains = running.retrains;
-    let replay = Replay {
-        at,
-        count: 0,
-        retrains,
-    };
     let mut r = s;
     r.buffer = buffer;
     r.acked = number;
-    r.replay = replay;
+    r.replay.at = moved(k, buffer.len, s.replay.at);
+    r.replay.count = 0;
     r
 }
 
@@ -67,52 +61,34 @@ fn again(s: Sender) -> Sender
     s.begin()
 }
 
-// An Ack or Nak; 24 where its number is not accepted.
-fn answered(s: Sender, number: Seq, nak: bool) -> Told
-    ensures { result ≡ answered s number nak }
+// An Ack or Nak; refused where its number is not accepted.
+#[tactic(auto, using(answers::proofs::Outcomes::no_refusal_is_0), unfolding(crate::specs::Hearing::answered))]
+fn answered(s: Sender, number: Seq, nak: bool) -> Result<Sender, Refusal>
+    ensures { told_of s result ≡ answered s number nak }
 {
-    if s.acked.ack_answer(s.buffer.len, number) != 0 {
-        return Told {
-            sender: s,
-            answer: 24,
-        };
-    }
+    s.acked.ack_answer(s.buffer.len, number)?;
     let freed = acknowledged(s, number);
-    if nak {
-        let sender = again(freed);
-        return Told { sender, answer: 0 };
-    }
-    Told {
-        sender: freed,
-        answer: 0,
-    }
+    Ok(if nak { again(freed) } else { freed })
 }
 
-// An update replaces both limits of its channel and category; 25 where it is not accepted, as on a channel that there is not.
-fn limited(s: Sender, channel: u8, c: Category, limits: Counts) -> Told
-    ensures { result ≡ limited s channel c limits }
+// An update replaces both limits of its channel and category; refused where it is not accepted, as on a channel that there is not.
+#[tactic(auto, using(answers::proofs::Outcomes::no_refusal_is_0), unfolding(crate::specs::Hearing::limited, counters::specs::Counters::update_answer))]
+fn limited(s: Sender, channel: u8, c: Category, limits: Counts) -> Result<Sender, Refusal>
+    ensures { told_of s result ≡ limited s channel c limits }
 {
     let k = channel as usize;
     if k >= CHANNELS {
-        return Told {
-            sender: s,
-            answer: 25,
-        };
+        return Err(Refusal::Update);
     }
     let credit = s.credit(k, c);
-    if credit.update_answer(limits) != 0 {
-        return Told {
-            sender: s,
-            answer: 25,
-        };
-    }
-    let sender = s.with_credit(k, c, credit.updated(limits));
-    Told { sender, answer: 0 }
+    credit.update_answer(limits)?;
+    Ok(s.with_credit(k, c, credit.updated(limits)))
 }
 
 // What a link message that arrived whole does.
-pub fn hear(s: Sender, m: Message) -> Told
-    ensures { result ≡ hears s m }
+#[tactic(auto, unfolding(crate::specs::Hearing::hears))]
+pub fn hear(s: Sender, m: Message) -> Result<Sender, Refusal>
+    ensures { told_of s result ≡ hears s m }
 {
     match m {
         Message::Ack(number) => answered(s, number, false),

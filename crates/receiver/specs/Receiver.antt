@@ -1,8 +1,7 @@
 -- The receiving half of an end: its state, the start, what it owes, its marked updates and Refresh.
 -- Assumes nothing.
-use Rattle.std.specs.Prelude.{ℕ, ◌+◌, ◌*◌, ◌/◌, ◌%◌, Bool, true, false, List, ◌++◌, map, ltb, eqb, set, get_or, take, drop, replicate, if◌then◌else◌}
+use Rattle.std.specs.Prelude.{ℕ, ◌*◌, ◌/◌, ◌%◌, Bool, true, false, List, ◌++◌, map, ltb, eqb, set, get_or, take, drop, replicate, if◌then◌else◌, Option, Some, None}
 use Rattle.basics.specs.Lists.{find}
-use Rattle.basics.specs.declared.Found.{Found}
 use Rattle.counters.specs.declared.Seq.{Seq}
 use Rattle.counters.specs.Counters.{seq, next_of, before_of}
 use Rattle.credits.specs.declared.Room.{Room}
@@ -10,17 +9,13 @@ use Rattle.credits.specs.Credits.{none, advertised, room_of, marked, unmarked}
 use Rattle.packets.specs.declared.Category.{Category}
 use Rattle.packets.specs.declared.Category.TheVariants.{Posted, NonPosted, Completion}
 use Rattle.frames.specs.declared.Frame.{Frame}
-use Rattle.frames.specs.declared.Frame.TheVariants as Frame
 use Rattle.frames.specs.declared.Message.TheVariants as Message
 use Rattle.store.specs.declared.Packets.{Packets}
 use Rattle.store.specs.Store.{empty}
-use Rattle.line.specs.declared.Front.{Front}
-use Rattle.line.specs.declared.Front.TheVariants as Front
 use Rattle.setup.specs.declared.Setup.{Setup}
 use Rattle.setup.specs.declared.Units.{Units}
 use Rattle.setup.specs.Setup.{channels, per_end}
 use Rattle.receiver.specs.declared.Owed.{Owed}
-use Rattle.receiver.specs.declared.Owed.TheVariants as Owed
 use Rattle.receiver.specs.declared.Reply.{Reply}
 use Rattle.receiver.specs.declared.Receiver.{Receiver}
 
@@ -54,20 +49,20 @@ with_room r slot m = receiver r.inboxes (set r.rooms slot m) r.reply
 
 -- ---- what it has for the line: an owed Nak, an owed Ack; they carry next-receive − 1 and clear what is owed
 
-abbrev pub nak_by : Owed → Seq → Front
-nak_by Owed.Nak next = Front.Frame (Frame.Message (Message.Nak (before_of next)))
-nak_by Owed.Ack next = Front.Nothing
-nak_by Owed.Nothing next = Front.Nothing
+abbrev pub nak_by : Owed → Seq → Option Frame
+nak_by Owed.Nak next = Some (Frame.Message (Message.Nak (before_of next)))
+nak_by Owed.Ack next = None
+nak_by Owed.Nothing next = None
 
-abbrev pub nak_of : Reply → Front
+abbrev pub nak_of : Reply → Option Frame
 nak_of x = nak_by x.owed x.next_receive
 
-abbrev pub ack_by : Owed → Seq → Front
-ack_by Owed.Ack next = Front.Frame (Frame.Message (Message.Ack (before_of next)))
-ack_by Owed.Nak next = Front.Nothing
-ack_by Owed.Nothing next = Front.Nothing
+abbrev pub ack_by : Owed → Seq → Option Frame
+ack_by Owed.Ack next = Some (Frame.Message (Message.Ack (before_of next)))
+ack_by Owed.Nak next = None
+ack_by Owed.Nothing next = None
 
-abbrev pub ack_of : Reply → Front
+abbrev pub ack_of : Reply → Option Frame
 ack_of x = ack_by x.owed x.next_receive
 
 unfoldable pub cleared : Receiver → Receiver
@@ -97,7 +92,7 @@ after_gap x = if x.nak_sent then x else reply x.next_receive true Owed.Nak
 abbrev pub is_marked : Room → Bool
 is_marked m = m.marked
 
-abbrev pub first_marked : Receiver → Found
+abbrev pub first_marked : Receiver → Option ℕ
 first_marked r = find is_marked r.rooms 0
 
 -- the channel and the category of a slot 3 · channel + category

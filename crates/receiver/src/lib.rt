@@ -6,13 +6,12 @@ ghost use Rattle.std.specs.Prelude.{◌≡◌, map, take};
 ghost use Rattle.setup.specs.Setup.{per_end};
 ghost use Rattle.receiver.specs.Receiver.{room_for, start_of, inbox_at, room_at, nak_of, ack_of, after_accepted, ack_unless_nak, after_duplicate, after_gap, cleared, first_marked, channel_in, category_in, update_frame, told, refreshed};
 
-use basics::Found;
-use counters::{Counts, Seq};
+use counters::{Counts, Seq, Wrapped};
 use credits::Room;
 use frames::{Frame, Message};
-use line::Front;
 use packets::Category;
 use setup::{CHANNELS, PER_END, Setup, Units};
+use std::array;
 use store::Packets;
 
 // What is owed to the other end.
@@ -49,13 +48,7 @@ fn room_for(u: Units) -> Room
 fn rooms_for(link: Setup) -> [Room; PER_END]
     ensures { result ≡ map room_for (take per_end link.units) }
 {
-    let mut all = [Room::start(Counts::start()); PER_END];
-    let mut i = 0;
-    while i < PER_END {
-        all[i] = room_for(link.units[i]);
-        i += 1;
-    }
-    all
+    array::from_fn(|slot| room_for(link.units[slot]))
 }
 
 fn ack_unless_nak(owed: Owed) -> Owed
@@ -69,27 +62,23 @@ fn ack_unless_nak(owed: Owed) -> Owed
 }
 
 impl Reply {
-    // An owed Nak.
-    pub fn nak(self) -> Front
+    // An owed Nak. One function for this and for an owed Ack would take the state and the message, and be no shorter.
+    pub fn nak(self) -> Option<Frame>
         ensures { result ≡ nak_of self }
     {
-        let owed = self.owed;
-        match owed {
-            Owed::Nak => Front::Frame(Frame::Message(Message::Nak(self.next_receive.previous()))),
-            Owed::Ack => Front::Nothing,
-            Owed::Nothing => Front::Nothing,
+        match self.owed {
+            Owed::Nak => Some(Frame::Message(Message::Nak(self.next_receive.previous()))),
+            Owed::Ack | Owed::Nothing => None,
         }
     }
 
     // An owed Ack.
-    pub fn ack(self) -> Front
+    pub fn ack(self) -> Option<Frame>
         ensures { result ≡ ack_of self }
     {
-        let owed = self.owed;
-        match owed {
-            Owed::Ack => Front::Frame(Frame::Message(Message::Ack(self.next_receive.previous()))),
-            Owed::Nak => Front::Nothing,
-            Owed::Nothing => Front::Nothing,
+        match self.owed {
+            Owed::Ack => Some(Frame::Message(Message::Ack(self.next_receive.previous()))),
+            Owed::Nak | Owed::Nothing => None,
         }
     }
 
@@ -106,12 +95,9 @@ impl Reply {
     pub fn after_duplicate(self) -> Reply
         ensures { result ≡ after_duplicate self }
     {
-        let next_receive = self.next_receive;
-        let owed = self.owed;
         Reply {
-            next_receive,
-            nak_sent: self.nak_sent,
-            owed: ack_unless_nak(owed),
+            owed: ack_unless_nak(self.owed),
+            ..self
         }
     }
 
@@ -122,11 +108,10 @@ impl Reply {
         if self.nak_sent {
             return self;
         }
-        let next_receive = self.next_receive;
         Reply {
-            next_receive,
             nak_sent: true,
             owed: Owed::Nak,
+            ..self
         }
     }
 }
@@ -135,34 +120,29 @@ impl Reply {
 pub fn channel_in(slot: usize) -> u8
     ensures { result ≡ channel_in slot }
 {
-    if slot < PER_END {
-        return (slot / 3) as u8;
-    }
-    0
+    if slot < PER_END { (slot / 3) as u8 } else { 0 }
 }
 
 // The category of a slot 3 * channel + category.
 pub fn category_in(slot: usize) -> Category
     ensures { result ≡ category_in slot }
 {
-    if slot % 3 == 0 {
-        return Category::Posted;
+    match slot % 3 {
+        0 => Category::Posted,
+        1 => Category::NonPosted,
+        _ => Category::Completion,
     }
-    if slot % 3 == 1 {
-        return Category::NonPosted;
-    }
-    Category::Completion
 }
 
 impl Receiver {
     // Nothing waits, nothing is owed or marked; what is allocated are the units of this end.
+    #[tactic(auto, unfolding(crate::specs::Receiver::start_of))]
     pub fn start(link: Setup) -> Receiver
         ensures { result ≡ start_of link }
     {
-        let rooms = rooms_for(link);
         Receiver {
             inboxes: [Packets::empty(); CHANNELS],
-            rooms,
+            rooms: rooms_for(link),
             reply: Reply {
                 next_receive: Seq::start(),
                 nak_sent: false,
@@ -172,33 +152,20 @@ impl Receiver {
     }
 
     // What is owed is told: nothing is owed.
+    #[tactic(auto, unfolding(crate::specs::Receiver::cleared))]
     pub fn clear(self) -> Receiver
         ensures { result ≡ cleared self }
     {
-        let next_receive = self.reply.next_receive;
-        let reply = Reply {
-            next_receive,
-            nak_sent: self.reply.nak_sent,
-            owed: Owed::Nothing,
-        };
         let mut r = self;
-        r.reply = reply;
+        r.reply.owed = Owed::Nothing;
         r
     }
 
     // The slot of the first marked update.
-    pub fn first_marked(self) -> Found
+    pub fn first_marked(self) -> Option<usize>
         ensures { result ≡ first_marked self }
     {
-        let mut i = 0;
-        while i < PER_END {
-            let m = self.rooms[i];
-            if m.marked {
-                return Found::At(i);
-            }
-            i += 1;
-        }
-        Found::Nothing
+        self.rooms.iter().position(|m| m.marked)
     }
 
     pub fn room(self, slot: usize) -> Room
@@ -220,42 +187,38 @@ impl Receiver {
     }
 
     // The update of a slot: it carries both allocated counts.
+    #[tactic(auto, unfolding(crate::specs::Receiver::update_frame))]
     pub fn update_frame(self, slot: usize) -> Frame
         ensures { result ≡ update_frame self slot }
     {
-        let room = self.room(slot);
-        let counts = room.allocated;
         Frame::Message(Message::Update {
             channel: channel_in(slot),
             category: category_in(slot),
-            counts,
+            counts: self.room(slot).allocated,
         })
     }
 
     // The update of a slot is told: its mark is cleared.
+    #[tactic(auto, unfolding(crate::specs::Receiver::told))]
     pub fn told(self, slot: usize) -> Receiver
         ensures { result ≡ told self slot }
     {
+        let mut r = self;
         if slot < PER_END {
-            let room = self.rooms[slot].unmark();
-            let mut r = self;
-            r.rooms[slot] = room;
-            return r;
+            r.rooms[slot] = self.rooms[slot].unmark();
         }
-        self
+        r
     }
 
-    // Marks all updates of the n channels in use.
+    // Marks all updates of the n channels in use. By an index: no proof may cite the array that a loop over `&mut` elements leaves.
+    #[tactic(auto, unfolding(crate::specs::Receiver::refreshed))]
     pub fn refresh(self, n: u8) -> Receiver
         ensures { result ≡ refreshed self n }
     {
-        let used = 3 * (n as usize);
+        let used = PER_END.min(3 * (n as usize));
         let mut r = self;
-        let mut i = 0;
-        while i < PER_END && i < used {
-            let room = self.rooms[i].mark();
-            r.rooms[i] = room;
-            i += 1;
+        for slot in 0..used {
+            r.rooms[slot] = self.rooms[slot].mark();
         }
         r
     }

@@ -14,7 +14,7 @@ use Rattle.setup.specs.declared.Setup.{Setup}
 use Rattle.setup.specs.Setup.{channels, per_end, slots}
 use Rattle.sender.specs.declared.Replay.{Replay}
 use Rattle.sender.specs.declared.Sender.{Sender}
-use Rattle.sender.specs.declared.Told.{Told}
+use Rattle.sender.specs.Sender.{Told}
 use Rattle.sender.specs.Sender.{start_of, queue_at, with_replay, submitted, begun, timer_of}
 use Rattle.sender.specs.Sources.{replayed, new_packet, sent_new}
 

@@ -1,6 +1,6 @@
 -- What a sending half holds after each change: its queues, its credits, its replay buffer and its replay.
 -- Where it is said, its arrays have their lengths (`Arrays`), as every value of the code has. Assumes nothing else.
-use Rattle.std.specs.Prelude.{if◌then◌else◌}
+use Rattle.std.specs.Prelude.{if◌then◌else◌, Some, None}
 use Prim.Native.Nat.{ℕ, ◌+◌, ◌-◌, ◌<◌, ◌≤◌}
 use mathlib.Core.Path.{◌≡◌, refl, sym, ap, ◌∙◌}
 use mathlib.Core.Logic.{◌≢◌}
@@ -11,7 +11,6 @@ use borrow.Author.Tests.{lt-ltb, ltb-true, eq-eqb, ne_eqb}
 use lib.Dec.{ltb}
 use lib.ListN.{get_or, take, drop, get_or-map}
 use lib.Seq.{get_or-drop, get_or-set_same, get_or-set_other}
-use Rattle.basics.specs.declared.Found.TheVariants.{At, Nothing}
 use Rattle.basics.proofs.Branches.{by_test}
 use Rattle.basics.proofs.Finds.{place_of, apart}
 use Rattle.basics.proofs.Places.{get_or-same}
@@ -137,18 +136,18 @@ unfolding replayed
 only_replayed s i = refl
 
 -- its next packet is the one after, while there is one
-pub place_after_lem : (i len j : ℕ) → place_after i len ≡ At j → (j ≡ i + 1) × (j < len)
+pub place_after_lem : (i len j : ℕ) → place_after i len ≡ Some j → (j ≡ i + 1) × (j < len)
 place_after_lem i len j e = go (ltb (i + 1) len) refl e
   where
-    go : (b : Bool) → ltb (i + 1) len ≡ b → (if b then At (i + 1) else Nothing) ≡ At j → (j ≡ i + 1) × (j < len)
+    go : (b : Bool) → ltb (i + 1) len ≡ b → (if b then Some (i + 1) else None) ≡ Some j → (j ≡ i + 1) × (j < len)
     go true t e = let k : i + 1 ≡ j = ap place_of e in (sym k, omega (arith, ltb-true (i + 1) len t))
     go false t e = apart j e
 
 -- ---- a start: at the oldest, with a count of at most 3
 
-pub begun-at : (r : Replay) → (begun r).at ≡ At 0
+pub begun-at : (r : Replay) → (begun r).at ≡ Some 0
 unfolding begun
-begun-at r = by_test (λ (x : Replay). x.at ≡ At 0) (ltb r.count 3) (λ t. refl) (λ t. refl)
+begun-at r = by_test (λ (x : Replay). x.at ≡ Some 0) (ltb r.count 3) (λ t. refl) (λ t. refl)
 
 pub begun-count : (r : Replay) → (begun r).count ≤ 3
 unfolding begun

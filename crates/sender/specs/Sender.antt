@@ -1,8 +1,8 @@
 -- The sending half of an end: its state, the start, Submit's change, a replay's start and Timer.
 -- Assumes nothing.
-use Rattle.std.specs.Prelude.{ℕ, ◌+◌, List, map, ltb, eqb, set, get_or, drop, replicate, if◌then◌else◌}
-use Rattle.basics.specs.declared.Found.{Found}
-use Rattle.basics.specs.declared.Found.TheVariants.{At, Nothing}
+use Rattle.std.specs.Prelude.{ℕ, ◌+◌, List, map, ltb, eqb, set, get_or, drop, replicate, if◌then◌else◌, Some, None, Option, Result, Ok, Err}
+use Rattle.answers.specs.declared.Refusal.{Refusal}
+use Rattle.answers.specs.Answers.{number_of}
 use Rattle.counters.specs.declared.Seq.{Seq}
 use Rattle.counters.specs.declared.Retrain.{Retrain}
 use Rattle.counters.specs.Wrapped.{plus}
@@ -17,9 +17,8 @@ use Rattle.setup.specs.declared.Units.{Units}
 use Rattle.setup.specs.Setup.{channels, per_end}
 use Rattle.sender.specs.declared.Replay.{Replay}
 use Rattle.sender.specs.declared.Sender.{Sender}
-use Rattle.sender.specs.declared.Told.{Told}
 
-abbrev pub replay : Found → ℕ → Retrain → Replay
+abbrev pub replay : Option ℕ → ℕ → Retrain → Replay
 replay at count again = record { at = at; count = count; retrains = again }
 
 abbrev pub sender : List Packets → List Credit → Packets → Seq → Seq → Replay → Sender
@@ -34,7 +33,7 @@ credit_of u = credit_for (advertised u.header u.payload)
 -- the setup is turned so that its end 1 is the other end
 unfoldable pub start_of : Setup → Sender
 start_of link =
-    sender (replicate channels empty) (map credit_of (drop per_end link.units)) empty (seq 0) (before_of (seq 0)) (replay Nothing 0 (retrains 0))
+    sender (replicate channels empty) (map credit_of (drop per_end link.units)) empty (seq 0) (before_of (seq 0)) (replay None 0 (retrains 0))
 
 -- ---- its parts: a channel's queue, the credit of a channel and category
 
@@ -63,11 +62,21 @@ submitted s channel p = with_queue s channel (pushed (queue_at s channel) p)
 unfoldable pub begun : Replay → Replay
 begun r =
     if ltb r.count 3
-    then replay (At 0) (r.count + 1) r.retrains
-    else replay (At 0) 0 (retrains (plus retrain_range r.retrains.0 1))
+    then replay (Some 0) (r.count + 1) r.retrains
+    else replay (Some 0) 0 (retrains (plus retrain_range r.retrains.0 1))
+
+-- the half after it was told something, with what is answered: 0, or why nothing changed
+pub record Told : Type 0 where
+  pub sender : Sender
+  pub answer : ℕ
 
 abbrev pub told : Sender → ℕ → Told
 told s answer = record { sender = s; answer = answer }
+
+-- a refusal leaves it as it was
+abbrev pub told_of : Sender → Result Sender Refusal → Told
+told_of s (Ok x) = told x 0
+told_of s (Err refusal) = told s (number_of refusal)
 
 -- Timer, also while a replay runs; 23: nothing unacknowledged
 unfoldable pub timer_of : Sender → Told

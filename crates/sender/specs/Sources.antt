@@ -1,8 +1,6 @@
 -- The packets that the sending half has for the line: the next of a running replay, or a new one.
 -- Assumes nothing.
-use Rattle.std.specs.Prelude.{ℕ, zero, suc, ◌+◌, List, [], ◌∷◌, ltb, set, if◌then◌else◌}
-use Rattle.basics.specs.declared.Found.{Found}
-use Rattle.basics.specs.declared.Found.TheVariants.{At, Nothing}
+use Rattle.std.specs.Prelude.{ℕ, zero, suc, ◌+◌, List, [], ◌∷◌, ltb, set, if◌then◌else◌, Some, None, Option}
 use Rattle.counters.specs.Counters.{after_of, next_of}
 use Rattle.credits.specs.declared.Credit.{Credit}
 use Rattle.credits.specs.Credits.{spent}
@@ -14,7 +12,6 @@ use Rattle.store.specs.Store.{held, at, pushed, removed}
 use Rattle.choice.specs.Choice.{chosen}
 use Rattle.setup.specs.Setup.{channels}
 use Rattle.sender.specs.declared.Sender.{Sender}
-use Rattle.sender.specs.declared.New.{New}
 use Rattle.sender.specs.Sender.{replay, sender, with_replay, queue_at, credit_at}
 
 -- ---- the next replay packet
@@ -24,8 +21,8 @@ abbrev pub replay_frame : Sender → ℕ → Frame
 replay_frame s i = Frame.Packet (after_of (next_of s.acked) i) (at s.buffer i)
 
 -- the place after place i, where there is one below len
-abbrev pub place_after : ℕ → ℕ → Found
-place_after i len = if ltb (i + 1) len then At (i + 1) else Nothing
+abbrev pub place_after : ℕ → ℕ → Option ℕ
+place_after i len = if ltb (i + 1) len then Some (i + 1) else None
 
 -- a replay ends after its last packet, and adds to no counter
 unfoldable pub replayed : Sender → ℕ → Sender
@@ -42,21 +39,21 @@ credits_of s channel =
     credit_at s (slot_of channel Posted) ∷ credit_at s (slot_of channel NonPosted) ∷ credit_at s (slot_of channel Completion) ∷ []
 
 -- a channel's oldest eligible packet
-abbrev pub chosen_in : Sender → ℕ → Found
+abbrev pub chosen_in : Sender → ℕ → Option ℕ
 chosen_in s channel = chosen (credits_of s channel) (held (queue_at s channel))
 
-abbrev pub on_found : Found → (ℕ → New) → New → New
-on_found (At i) found none = found i
-on_found Nothing found none = none
+abbrev pub on_found : Option ℕ → (ℕ → Option (ℕ × ℕ)) → Option (ℕ × ℕ) → Option (ℕ × ℕ)
+on_found (Some i) found later = found i
+on_found None found later = later
 
 -- the highest channel below c that has an eligible one
-unfoldable pub highest : Sender → ℕ → New
-highest s zero = New.Nothing
-highest s (suc c) = on_found (chosen_in s c) (λ i. New.At c i) (highest s c)
+unfoldable pub highest : Sender → ℕ → Option (ℕ × ℕ)
+highest s zero = None
+highest s (suc c) = on_found (chosen_in s c) (λ i. Some (c, i)) (highest s c)
 
 -- if the replay buffer has room
-unfoldable pub new_of : Sender → New
-new_of s = if ltb s.buffer.len buffer_bound then highest s channels else New.Nothing
+unfoldable pub new_of : Sender → Option (ℕ × ℕ)
+new_of s = if ltb s.buffer.len buffer_bound then highest s channels else None
 
 abbrev pub new_packet : Sender → ℕ → ℕ → Packet
 new_packet s channel place = at (queue_at s channel) place

@@ -2,25 +2,26 @@
 // Assumes nothing: every function takes all values.
 #![tactic(auto)]
 
-ghost use Rattle.std.specs.Prelude.{◌≡◌, ◌<◌, map, length, drop};
+ghost use Rattle.std.specs.Prelude.{◌≡◌, map, length, drop};
 ghost use Rattle.packets.specs.Packets.{slot_of};
 ghost use Rattle.store.specs.Store.{held, of_category};
-ghost use Rattle.setup.specs.Setup.{channels, per_end};
-ghost use Rattle.sender.specs.Sender.{credit_of, start_of, queue_at, credit_at, with_queue, with_credit, with_replay, submitted, begun, timer_of};
+ghost use Rattle.setup.specs.Setup.{per_end};
+ghost use Rattle.sender.specs.Sender.{credit_of, start_of, queue_at, credit_at, with_queue, with_credit, with_replay, submitted, begun, told_of, timer_of};
 ghost use Rattle.sender.specs.Sources.{replay_frame, place_after, replayed, credits_of, chosen_in, new_of, new_frame, sent_new};
 
-use basics::Found;
-use counters::{Counts, Retrain, Seq};
+use answers::Refusal;
+use counters::{Counts, Retrain, Seq, Wrapped};
 use credits::Credit;
 use frames::Frame;
 use packets::{Category, Packet};
 use setup::{CHANNELS, PER_END, Setup, Units};
+use std::array;
 use store::Packets;
 
 // The place in the replay buffer of a running replay's next packet; how many starts are counted; how often the link was trained again.
 #[derive(Clone, Copy)]
 pub struct Replay {
-    pub at: Found,
+    pub at: Option<usize>,
     pub count: u8,
     pub retrains: Retrain,
 }
@@ -36,20 +37,6 @@ pub struct Sender {
     pub replay: Replay,
 }
 
-// The half after it was told something, with the answer: 0, or why nothing changed.
-#[derive(Clone, Copy)]
-pub struct Told {
-    pub sender: Sender,
-    pub answer: u8,
-}
-
-// Where a new packet waits.
-#[derive(Clone, Copy)]
-pub enum New {
-    At { channel: usize, place: usize },
-    Nothing,
-}
-
 // The most packets in the replay buffer.
 pub const BUFFER: usize = 16;
 
@@ -61,14 +48,14 @@ impl Replay {
         let retrains = self.retrains;
         if self.count < 3 {
             return Replay {
-                at: Found::At(0),
+                at: Some(0),
                 count: self.count + 1,
                 retrains,
             };
         }
         let again = retrains.grow();
         Replay {
-            at: Found::At(0),
+            at: Some(0),
             count: 0,
             retrains: again,
         }
@@ -85,36 +72,19 @@ fn credit_of(u: Units) -> Credit
 fn credits_for(link: Setup) -> [Credit; PER_END]
     ensures { result ≡ map credit_of (drop per_end link.units) }
 {
-    let none = Credit::start(Counts::start());
-    let mut all = [none; PER_END];
-    let mut i = 0;
-    while i < PER_END {
-        let u = link.units[PER_END + i];
-        all[i] = credit_of(u);
-        i += 1;
-    }
-    all
+    array::from_fn(|slot| credit_of(link.units[PER_END + slot]))
 }
 
 // The place after place i, where there is one below len.
-pub fn place_after(i: usize, len: usize) -> Found
+pub fn place_after(i: usize, len: usize) -> Option<usize>
     ensures { result ≡ place_after i len }
 {
     if i < len {
         if i + 1 < len {
-            return Found::At(i + 1);
+            return Some(i + 1);
         }
     }
-    Found::Nothing
-}
-
-// Where the credit of a channel and category stands.
-fn slot(channel: usize, c: Category) -> usize
-    requires { channel < channels }
-    ensures value { result ≡ slot_of channel c }
-    ensures upper_bound { result < per_end }
-{
-    3 * channel + c.number() as usize
+    None
 }
 
 impl Sender {
@@ -129,7 +99,7 @@ impl Sender {
         let acked = next.previous();
         let retrains = Retrain::start();
         let replay = Replay {
-            at: Found::Nothing,
+            at: None,
             count: 0,
             retrains,
         };
@@ -144,13 +114,13 @@ impl Sender {
     }
 
     // What waits to be sent on a channel; nothing where there is no such channel.
-    fn queue(self, channel: usize) -> Packets
-        ensures { result ≡ queue_at self channel }
+    fn queue(&self, channel: usize) -> Packets
+        ensures { result ≡ queue_at self.now channel }
     {
-        if channel < CHANNELS {
-            return self.queues[channel];
+        match self.queues.get(channel) {
+            Some(queue) => *queue,
+            None => Packets::empty(),
         }
-        Packets::empty()
     }
 
     // With this queue on a channel; as it was where there is no such channel.
@@ -170,7 +140,7 @@ impl Sender {
         ensures { result ≡ credit_at self (slot_of channel c) }
     {
         if channel < CHANNELS {
-            return self.credits[slot(channel, c)];
+            return self.credits[c.slot(channel)];
         }
         Credit::start(Counts::start())
     }
@@ -182,74 +152,61 @@ impl Sender {
         if channel >= CHANNELS {
             return self;
         }
-        let at = slot(channel, c);
+        let at = c.slot(channel);
         let mut r = self;
         r.credits[at] = credit;
         r
     }
 
     // How many packets of a category wait on a channel.
-    pub fn waiting(self, channel: usize, c: Category) -> usize
-        ensures { result ≡ length (of_category c (held (queue_at self channel))) }
+    pub fn waiting(&self, channel: usize, c: Category) -> usize
+        ensures { result ≡ length (of_category c (held (queue_at self.now channel))) }
     {
         self.queue(channel).count_of(c)
     }
 
     // The packet joins its channel's send queue.
+    #[tactic(auto, unfolding(crate::specs::Sender::submitted))]
     pub fn submit(self, channel: usize, p: Packet) -> Sender
         ensures { result ≡ submitted self channel p }
     {
-        let q = self.queue(channel).push(p);
-        self.with_queue(channel, q)
+        self.with_queue(channel, self.queue(channel).push(p))
     }
 
     // A replay starts at the oldest unacknowledged packet, also while one runs.
     pub fn begin(self) -> Sender
         ensures { result ≡ with_replay self (begun self.replay) }
     {
-        let replay = self.replay.begin();
         let mut r = self;
-        r.replay = replay;
+        r.replay = self.replay.begin();
         r
     }
 
-    // Timer: a replay starts; 23 where nothing is unacknowledged.
-    pub fn timer(self) -> Told
-        ensures { result ≡ timer_of self }
+    // Timer: a replay starts; refused where nothing is unacknowledged.
+    #[tactic(auto, unfolding(crate::specs::Sender::timer_of))]
+    pub fn timer(self) -> Result<Sender, Refusal>
+        ensures { told_of self result ≡ timer_of self }
     {
         if self.buffer.len == 0 {
-            return Told {
-                sender: self,
-                answer: 23,
-            };
+            return Err(Refusal::NothingOut);
         }
-        let sender = self.begin();
-        Told { sender, answer: 0 }
+        Ok(self.begin())
     }
 
     // The packet at a place of the replay buffer, with its number.
     pub fn replay_frame(self, i: usize) -> Frame
         ensures { result ≡ replay_frame self i }
     {
-        let number = self.acked.next().after(i);
-        let p = self.buffer.at(i);
-        Frame::Packet(number, p)
+        Frame::Packet(self.acked.next().after(i), self.buffer.at(i))
     }
 
     // The replay goes on after the packet at place i, or ends after the last. It adds to no counter.
+    #[tactic(auto, unfolding(crate::specs::Sources::replayed))]
     pub fn replayed(self, i: usize) -> Sender
         ensures { result ≡ replayed self i }
     {
-        let running = self.replay;
-        let at = place_after(i, self.buffer.len);
-        let retrains = running.retrains;
-        let replay = Replay {
-            at,
-            count: running.count,
-            retrains,
-        };
         let mut r = self;
-        r.replay = replay;
+        r.replay.at = place_after(i, self.buffer.len);
         r
     }
 
@@ -257,14 +214,15 @@ impl Sender {
     fn credits_of(self, channel: usize) -> [Credit; 3]
         ensures { result ≡ credits_of self channel }
     {
-        let posted = self.credit(channel, Category::Posted);
-        let non_posted = self.credit(channel, Category::NonPosted);
-        let completion = self.credit(channel, Category::Completion);
-        [posted, non_posted, completion]
+        [
+            self.credit(channel, Category::Posted),
+            self.credit(channel, Category::NonPosted),
+            self.credit(channel, Category::Completion),
+        ]
     }
 
     // The place of a channel's oldest eligible packet.
-    fn chosen_in(self, channel: usize) -> Found
+    fn chosen_in(self, channel: usize) -> Option<usize>
         ensures { result ≡ chosen_in self channel }
     {
         let credits = self.credits_of(channel);
@@ -272,29 +230,25 @@ impl Sender {
     }
 
     // The new packet to send: from the highest channel that has an eligible one, if the replay buffer has room.
-    pub fn new_packet(self) -> New
+    pub fn new_packet(self) -> Option<(usize, usize)>
         ensures { result ≡ new_of self }
     {
         if self.buffer.len >= BUFFER {
-            return New::Nothing;
+            return None;
         }
-        let mut c = CHANNELS;
-        while 0 < c {
-            c -= 1;
-            if let Found::At(place) = self.chosen_in(c) {
-                return New::At { channel: c, place };
+        for c in (0..CHANNELS).rev() {
+            if let Some(place) = self.chosen_in(c) {
+                return Some((c, place));
             }
         }
-        New::Nothing
+        None
     }
 
     // The packet at a place of a channel's queue, with the next number.
     pub fn new_frame(self, channel: usize, place: usize) -> Frame
         ensures { result ≡ new_frame self channel place }
     {
-        let p = self.queue(channel).at(place);
-        let number = self.next;
-        Frame::Packet(number, p)
+        Frame::Packet(self.next, self.queue(channel).at(place))
     }
 
     // A new packet leaves its queue: it adds to consumed and enters the replay buffer.

@@ -14,18 +14,18 @@ returns-then-self-ge-BUFFER c = simp (new_of, le-ltb _ _ c.if-self-ge-BUFFER.tru
 
 pub loop-c-init : goal.loop-c-init
 unfolding new_of
-loop-c-init c = (omega arith, rw (lt-ltb _ _ c.if-self-ge-BUFFER.false))
+loop-c-init c = rw (lt-ltb _ _ c.if-self-ge-BUFFER.false)
 
-pub returns-in-At : goal.returns-in-At
-returns-in-At c =
-    sym (c.loop-c.invariant.1 ∙ highest-here c.args.self c.loop-c.c (c.loop-c.c - 1) (omega arith) _ (sym c.chosen_in.ensures ∙ c.in-At.is))
+pub returns-in-Some : goal.returns-in-Some
+returns-in-Some c =
+    sym (c.loop-c.invariant ∙ highest-here c.args.self c.loop-c.c (c.loop-c.c - 1) (omega arith) _ (sym c.chosen_in.ensures ∙ c.in-Some.is))
 
 pub loop-c-preserved : goal.loop-c-preserved
 loop-c-preserved c =
-    (omega arith, c.loop-c.invariant.1 ∙ highest-next c.args.self c.loop-c.c (c.loop-c.c - 1) (omega arith) (sym c.chosen_in.ensures ∙ c.in_default.is))
+    c.loop-c.invariant ∙ highest-next c.args.self c.loop-c.c (c.loop-c.c - 1) (omega arith) (sym c.chosen_in.ensures ∙ c.in_default.is)
 
 pub returns : goal.returns
 unfolding highest
 returns c =
     let e : c.loop-c.c ≡ 0 = omega arith in
-    sym (c.loop-c.invariant.1 ∙ rw e)
+    sym (c.loop-c.invariant ∙ rw e)

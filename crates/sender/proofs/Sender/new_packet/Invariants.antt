@@ -1,13 +1,8 @@
 -- `sender::Sender::new_packet` meets its contract. The invariant: no channel from c on has an eligible packet.
 -- Assumes nothing.
-use Prim.Native.Nat.{◌≤◌}
 use mathlib.Core.Path.{◌≡◌}
-use Rattle.setup.specs.Setup.{channels}
 use Rattle.sender.specs.Sources.{highest, new_of}
 use Rattle.sender.proofs.Sender.new_packet.Given as goal
 
 abbrev pub invariant-loop-c : goal.invariant-loop-c
-invariant-loop-c l = (l.c ≤ channels) × (new_of l.self ≡ highest l.self l.c)
-
-abbrev pub decreases-loop-c : goal.decreases-loop-c
-decreases-loop-c l = l.c
+invariant-loop-c l = new_of l.self ≡ highest l.self l.c
