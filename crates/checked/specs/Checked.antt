@@ -1,12 +1,11 @@
 -- The steps of a single end whose state is handed in from outside: first of all answer 10, then the step.
 -- Assumes nothing.
-use Rattle.std.specs.Prelude.{ℕ, if◌then◌else◌}
+use Rattle.std.specs.Prelude.{ℕ, if◌then◌else◌, Some, None}
 use Rattle.packets.specs.declared.Packet.{Packet}
 use Rattle.frames.specs.declared.Frame.{Frame}
-use Rattle.line.specs.declared.Front.TheVariants as Front
 use Rattle.ends.specs.declared.End.{End}
-use Rattle.ends.specs.declared.Stepped.{Stepped}
-use Rattle.ends.specs.declared.Sent.{Sent}
+use Rattle.ends.specs.Ends.{Stepped}
+use Rattle.ends.specs.Sends.{Sent}
 use Rattle.ends.specs.Ends.{stepped, submit_of, arrive_of, damage_of, take_at, timer_of, refresh_of}
 use Rattle.ends.specs.Sends.{sent, send_of}
 use Rattle.shape.specs.Shape.{in_shape}
@@ -16,7 +15,7 @@ unfoldable pub guarded : End → Stepped → Stepped
 guarded e step = if in_shape e then step else stepped e 10 0
 
 unfoldable pub guarded_sent : End → Sent → Sent
-guarded_sent e step = if in_shape e then step else sent e Front.Nothing 10 0
+guarded_sent e step = if in_shape e then step else sent e None 10 0
 
 -- ---- the steps
 

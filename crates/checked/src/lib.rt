@@ -1,88 +1,89 @@
-// The steps of a single end whose state is handed in from outside, by a host that may hand in anything: 10 where the state is out of shape, else the step.
-// Assumes nothing: every function takes all values. The step itself takes all states too, so it may be made before the state is looked at.
+// The steps of a single end whose state is handed in from outside, by a host that may hand in anything: a state out of shape is refused, else the step is made.
+// Assumes nothing: every function takes all values.
 #![tactic(auto)]
 
-ghost use Rattle.std.specs.Prelude.{◌≡◌};
-ghost use Rattle.checked.specs.Checked.{guarded, guarded_sent, checked_submit, checked_send, checked_arrive, checked_damage, checked_take, checked_timer, checked_refresh};
+ghost use Rattle.std.specs.Prelude.{◌≡◌, if◌then◌else◌};
+ghost use Rattle.answers.specs.Answers.{answer_of};
+ghost use Rattle.ends.specs.Ends.{stepped_of};
+ghost use Rattle.ends.specs.Sends.{sent_of};
+ghost use Rattle.shape.specs.Shape.{in_shape};
+ghost use Rattle.checked.specs.Checked.{checked_submit, checked_send, checked_arrive, checked_damage, checked_take, checked_timer, checked_refresh};
 
-use ends::{End, Sent, Stepped};
+use answers::{After, Refusal};
+use ends::{End, Outgoing};
 use frames::Frame;
-use line::Front;
 use packets::Packet;
 
-// The step, or the end as it came.
-fn guarded(e: End, step: Stepped) -> Stepped
-    ensures { result ≡ guarded e step }
+// Refused where the state is out of shape.
+fn shaped(e: End) -> Result<(), Refusal>
+    ensures { answer_of result ≡ (if in_shape e then 0 else 10) }
 {
     if shape::in_shape(e) {
-        return step;
-    }
-    Stepped {
-        end: e,
-        answer: 10,
-        detail: 0,
-    }
-}
-
-fn guarded_sent(e: End, step: Sent) -> Sent
-    ensures { result ≡ guarded_sent e step }
-{
-    if shape::in_shape(e) {
-        return step;
-    }
-    Sent {
-        end: e,
-        frame: Front::Nothing,
-        answer: 10,
-        detail: 0,
+        Ok(())
+    } else {
+        Err(Refusal::Shape)
     }
 }
 
 // A packet joins its channel's send queue.
-pub fn submit(e: End, p: Packet) -> Stepped
-    ensures { result ≡ checked_submit e p }
+#[tactic(auto, using(answers::proofs::Outcomes::no_refusal_is_0), unfolding(crate::specs::Checked::guarded))]
+pub fn submit(e: End, p: Packet) -> Result<After<End>, Refusal>
+    ensures { stepped_of e result ≡ checked_submit e p }
 {
-    guarded(e, e.submit(p))
+    shaped(e)?;
+    e.submit(p)
 }
 
 // The first frame that applies.
-pub fn send(e: End) -> Sent
-    ensures { result ≡ checked_send e }
+#[tactic(auto, using(answers::proofs::Outcomes::no_refusal_is_0), unfolding(crate::specs::Checked::guarded_sent))]
+pub fn send(e: End) -> Result<Outgoing, Refusal>
+    ensures { sent_of e result ≡ checked_send e }
 {
-    guarded_sent(e, e.send())
+    shaped(e)?;
+    e.send()
 }
 
 // A frame arrives whole.
-pub fn arrive(e: End, f: Frame) -> Stepped
-    ensures { result ≡ checked_arrive e f }
+#[tactic(auto, using(answers::proofs::Outcomes::no_refusal_is_0), unfolding(crate::specs::Checked::guarded))]
+pub fn arrive(e: End, f: Frame) -> Result<After<End>, Refusal>
+    ensures { stepped_of e result ≡ checked_arrive e f }
 {
-    guarded(e, e.arrive(f))
+    shaped(e)?;
+    e.arrive(f)
 }
 
 // A frame arrives damaged.
-pub fn damage(e: End, f: Frame) -> Stepped
-    ensures { result ≡ checked_damage e f }
+#[tactic(auto, using(answers::proofs::Outcomes::no_refusal_is_0), unfolding(crate::specs::Checked::guarded))]
+pub fn damage(e: End, f: Frame) -> Result<After<End>, Refusal>
+    ensures { stepped_of e result ≡ checked_damage e f }
 {
-    guarded(e, e.damage(f))
+    shaped(e)?;
+    Ok(e.damage(f))
 }
 
 // The oldest packet of a channel and category is handed out.
-pub fn take(e: End, channel: u8, category: u8) -> Stepped
-    ensures { result ≡ checked_take e channel category }
+#[tactic(auto, using(answers::proofs::Outcomes::no_refusal_is_0), unfolding(crate::specs::Checked::guarded))]
+pub fn take(e: End, channel: u8, category: u8) -> Result<After<End>, Refusal>
+    ensures { stepped_of e result ≡ checked_take e channel category }
 {
-    guarded(e, e.take(channel, category))
+    shaped(e)?;
+    e.take(channel, category)
 }
 
 // A replay starts.
-pub fn timer(e: End) -> Stepped
-    ensures { result ≡ checked_timer e }
+#[tactic(auto, using(answers::proofs::Outcomes::no_refusal_is_0), unfolding(crate::specs::Checked::guarded))]
+pub fn timer(e: End) -> Result<After<End>, Refusal>
+    ensures { stepped_of e result ≡ checked_timer e }
 {
-    guarded(e, e.timer())
+    shaped(e)?;
+    e.timer()
 }
 
 // All updates of channels in use are marked.
-pub fn refresh(e: End) -> Stepped
-    ensures { result ≡ checked_refresh e }
+#[tactic(auto, using(answers::proofs::Outcomes::no_refusal_is_0), unfolding(crate::specs::Checked::guarded))]
+pub fn refresh(e: End) -> Result<After<End>, Refusal>
+    ensures { stepped_of e result ≡ checked_refresh e }
 {
-    guarded(e, e.refresh())
+    shaped(e)?;
+    Ok(e.refresh())
 }

@@ -1,6 +1,9 @@
 -- One end of a link: its state, the start, and its steps but Send. Document 01, "The eight steps" and "What an arrival does".
 -- The setup is as the end sees it: its own units first, then the other end's. Assumes nothing.
-use Rattle.std.specs.Prelude.{ℕ, leb, ltb, eqb, length, if◌then◌else◌}
+use Rattle.std.specs.Prelude.{ℕ, leb, ltb, eqb, length, if◌then◌else◌, Result, Ok, Err}
+use Rattle.answers.specs.declared.Refusal.{Refusal}
+use Rattle.answers.specs.declared.After.{After}
+use Rattle.answers.specs.Answers as A
 use Rattle.basics.specs.Choice.{first_of}
 use Rattle.packets.specs.declared.Packet.{Packet}
 use Rattle.packets.specs.Packets.{number_of, category_of, packet_answer, data_units}
@@ -10,31 +13,49 @@ use Rattle.store.specs.Store.{held, of_category}
 use Rattle.setup.specs.declared.Setup.{Setup}
 use Rattle.setup.specs.Setup.{blank_setup, in_range, channel_of, units_at}
 use Rattle.sender.specs.declared.Sender.{Sender}
-use Rattle.sender.specs.declared.Told.{Told}
+use Rattle.sender.specs.Sender.{Told}
 use Rattle.sender.specs.Sender as S
 use Rattle.receiver.specs.declared.Receiver.{Receiver}
 use Rattle.receiver.specs.Receiver as R
 use Rattle.hearing.specs.Hearing.{hears}
-use Rattle.delivery.specs.declared.Got.{Got}
+use Rattle.delivery.specs.Delivery.{Got}
 use Rattle.delivery.specs.Delivery.{arrives, damaged, take_of}
 use Rattle.ends.specs.declared.End.{End}
-use Rattle.ends.specs.declared.Started.{Started}
-use Rattle.ends.specs.declared.Stepped.{Stepped}
 
 abbrev pub end : Setup → Sender → Receiver → End
 end link s r = record { setup = link; sender = s; receiver = r }
 
+-- the end after a step, with answer and detail
+pub record Stepped : Type 0 where
+  pub end : End
+  pub answer : ℕ
+  pub detail : ℕ
+
 abbrev pub stepped : End → ℕ → ℕ → Stepped
 stepped e answer detail = record { end = e; answer = answer; detail = detail }
+
+-- a refusal leaves it as it was, with detail 0
+abbrev pub stepped_of : End → Result (After End) Refusal → Stepped
+stepped_of e (Ok x) = stepped x.state 0 x.detail
+stepped_of e (Err refusal) = stepped e (A.number_of refusal) 0
 
 -- ---- the start
 
 unfoldable pub end_of : Setup → End
 end_of link = end link (S.start_of link) (R.start_of link)
 
+-- the end that was started, with the answer
+pub record Started : Type 0 where
+  pub end : End
+  pub answer : ℕ
+
 -- 5: the setup is out of range; then there is no end, and the end of the blank setup stands in its place
 unfoldable pub start_of : Setup → Started
 start_of link = if in_range link then record { end = end_of link; answer = 0 } else record { end = end_of blank_setup; answer = 5 }
+
+abbrev pub started_of : Result End Refusal → Started
+started_of (Ok e) = record { end = e; answer = 0 }
+started_of (Err refusal) = record { end = end_of blank_setup; answer = A.number_of refusal }
 
 -- ---- a change of one half: a refusal's half is as it was
 

@@ -2,18 +2,21 @@
 // No step looks at the shape of the state: a caller that cannot be sure of it asks for answer 10 first. Assumes nothing: every function takes all values.
 #![tactic(auto)]
 
-ghost use Rattle.std.specs.Prelude.{◌≡◌};
-ghost use Rattle.ends.specs.Ends.{end_of, start_of, stepped, by_sender, by_receiver, channel_for, too_much, too_many, submit_answer, submit_of, heard, arrive_of, damage_of, take_at, timer_of, refresh_of};
-ghost use Rattle.ends.specs.Sends.{from_receiver, from_sender, send_of};
+ghost use Rattle.std.specs.Prelude.{◌≡◌, Ok, Some};
+ghost use Rattle.delivery.specs.Delivery.{got_of};
+ghost use Rattle.answers.specs.Answers.{answer_of};
+ghost use Rattle.ends.specs.Ends.{by_receiver, end_of, start_of, started_of, stepped_of, channel_for, too_much, too_many, submit_answer, submit_of, heard, arrive_of, damage_of, take_at, timer_of, refresh_of};
+ghost use Rattle.ends.specs.Sends.{sent, sent_of, send_of};
 
-use basics::Found;
-use delivery::Got;
+use answers::{After, Refusal};
 use frames::Frame;
-use line::Front;
 use packets::Packet;
 use receiver::Receiver;
-use sender::{New, Sender, Told};
+use sender::Sender;
 use setup::Setup;
+
+// The most packets of a category that wait on a channel to be sent.
+pub const QUEUE: usize = 8;
 
 #[derive(Clone, Copy)]
 pub struct End {
@@ -22,286 +25,206 @@ pub struct End {
     pub receiver: Receiver,
 }
 
-// The end that was started, or with answer 5 none: the end of the blank setup.
-#[derive(Clone, Copy)]
-pub struct Started {
-    pub end: End,
-    pub answer: u8,
-}
-
-// The end after a step. A refusal leaves it as it was, with detail 0.
-#[derive(Clone, Copy)]
-pub struct Stepped {
-    pub end: End,
-    pub answer: u8,
-    pub detail: u32,
-}
-
 // The end after Send, with the frame for the line.
 #[derive(Clone, Copy)]
-pub struct Sent {
+pub struct Outgoing {
     pub end: End,
-    pub frame: Front,
-    pub answer: u8,
+    pub frame: Frame,
     pub detail: u32,
 }
 
-fn by_sender(e: End, t: Told) -> Stepped
-    ensures { result ≡ by_sender e t }
+// After a step that has no detail.
+fn bare(end: End) -> After<End>
+    ensures { (result.state ≡ end) × (result.detail ≡ 0) }
 {
-    let sender = t.sender;
-    let mut end = e;
-    end.sender = sender;
-    Stepped {
-        end,
-        answer: t.answer,
+    After {
+        state: end,
         detail: 0,
     }
 }
 
-fn by_receiver(e: End, g: Got) -> Stepped
-    ensures { result ≡ by_receiver e g }
+// After a step of the receiving half.
+fn by_receiver(end: End, got: After<Receiver>) -> After<End>
+    ensures { stepped_of end (Ok result) ≡ by_receiver end (got_of end.receiver (Ok got)) }
 {
-    let receiver = g.receiver;
-    let mut end = e;
-    end.receiver = receiver;
-    Stepped {
-        end,
-        answer: g.answer,
-        detail: g.detail,
+    After {
+        state: End {
+            receiver: got.state,
+            ..end
+        },
+        detail: got.detail,
     }
 }
 
-fn from_receiver(e: End, receiver: Receiver, f: Frame, detail: u32) -> Sent
-    ensures { result ≡ from_receiver e receiver f detail }
+// The frame is for the line, and this is the end after it.
+fn with_frame(end: End, frame: Frame, detail: u32) -> Outgoing
+    ensures { sent_of end (Ok result) ≡ sent end (Some frame) 0 detail }
 {
-    let mut end = e;
-    end.receiver = receiver;
-    let frame = Front::Frame(f);
-    Sent {
-        end,
-        frame,
-        answer: 0,
-        detail,
-    }
-}
-
-fn from_sender(e: End, sender: Sender, f: Frame, detail: u32) -> Sent
-    ensures { result ≡ from_sender e sender f detail }
-{
-    let mut end = e;
-    end.sender = sender;
-    let frame = Front::Frame(f);
-    Sent {
-        end,
-        frame,
-        answer: 0,
-        detail,
-    }
+    Outgoing { end, frame, detail }
 }
 
 impl End {
     // The end of any setup, also of one that is out of range.
+    #[tactic(auto, unfolding(crate::specs::Ends::end_of))]
     pub fn of(link: Setup) -> End
         ensures { result ≡ end_of link }
     {
-        let sender = Sender::start(link);
-        let receiver = Receiver::start(link);
         End {
             setup: link,
-            sender,
-            receiver,
+            sender: Sender::start(link),
+            receiver: Receiver::start(link),
         }
     }
 
     // Starts an end from its setup, as it sees it.
-    pub fn start(link: Setup) -> Started
-        ensures { result ≡ start_of link }
+    #[tactic(auto, unfolding(crate::specs::Ends::start_of))]
+    pub fn start(link: Setup) -> Result<End, Refusal>
+        ensures { started_of result ≡ start_of link }
     {
         if link.in_range() {
-            let end = End::of(link);
-            return Started { end, answer: 0 };
+            return Ok(End::of(link));
         }
-        let end = End::of(Setup::blank());
-        Started { end, answer: 5 }
+        Err(Refusal::Setup)
     }
 
-    fn channel_for(self, p: Packet) -> usize
-        ensures { result ≡ channel_for self p }
+    fn channel_for(&self, p: Packet) -> usize
+        ensures { result ≡ channel_for self.now p }
     {
         self.setup.channel_of(p.class)
     }
 
-    // 15 where the packet needs more data units than the other end's setup gives.
-    fn too_much(self, p: Packet) -> u8
-        ensures { result ≡ too_much self p }
+    // Refused where the packet needs more data units than the other end's setup gives.
+    #[tactic(auto, unfolding(packets::specs::Packets::need_of))]
+    fn too_much(&self, p: Packet) -> Result<(), Refusal>
+        ensures { answer_of result ≡ too_much self.now p }
     {
         let category = p.category().number() as usize;
         let units = self.setup.units_at(1, self.channel_for(p), category);
-        let need = p.need();
-        if units.payload < need.d.0 { 15 } else { 0 }
-    }
-
-    // 16 where 8 of its category wait on its channel.
-    fn too_many(self, p: Packet) -> u8
-        ensures { result ≡ too_many self p }
-    {
-        let channel = self.channel_for(p);
-        let sender = self.sender;
-        if 8 <= sender.waiting(channel, p.category()) {
-            16
-        } else {
-            0
+        if units.payload < p.need().d.0 {
+            return Err(Refusal::TooManyUnits);
         }
+        Ok(())
     }
 
-    fn submit_answer(self, p: Packet) -> u8
-        ensures { result ≡ submit_answer self p }
+    // Refused where 8 of its category wait on its channel.
+    fn too_many(&self, p: Packet) -> Result<(), Refusal>
+        ensures { answer_of result ≡ too_many self.now p }
     {
-        let much = self.too_much(p);
-        let many = self.too_many(p);
-        basics::first_of(p.answer(), basics::first_of(much, many))
-    }
-
-    pub fn submit(self, p: Packet) -> Stepped
-        ensures { result ≡ submit_of self p }
-    {
-        let answer = self.submit_answer(p);
-        if answer != 0 {
-            return Stepped {
-                end: self,
-                answer,
-                detail: 0,
-            };
+        if QUEUE <= self.sender.waiting(self.channel_for(p), p.category()) {
+            return Err(Refusal::QueueFull);
         }
+        Ok(())
+    }
+
+    // Whether a packet may join its channel's send queue.
+    #[tactic(auto, using(answers::proofs::Outcomes::no_refusal_is_0), unfolding(crate::specs::Ends::submit_answer))]
+    pub fn submit_answer(&self, p: Packet) -> Result<(), Refusal>
+        ensures { answer_of result ≡ submit_answer self.now p }
+    {
+        p.answer()?;
+        self.too_much(p)?;
+        self.too_many(p)
+    }
+
+    #[tactic(auto, using(answers::proofs::Outcomes::no_refusal_is_0), unfolding(crate::specs::Ends::submit_of))]
+    pub fn submit(self, p: Packet) -> Result<After<End>, Refusal>
+        ensures { stepped_of self result ≡ submit_of self p }
+    {
+        self.submit_answer(p)?;
         let sender = self.sender.submit(self.channel_for(p), p);
-        let mut end = self;
-        end.sender = sender;
-        Stepped {
-            end,
-            answer: 0,
-            detail: 0,
-        }
+        Ok(bare(End { sender, ..self }))
     }
 
     // The first frame that applies, and the end after it.
-    pub fn send(self) -> Sent
-        ensures { result ≡ send_of self }
+    #[tactic(auto, unfolding(crate::specs::Sends::send_of))]
+    pub fn send(self) -> Result<Outgoing, Refusal>
+        ensures { sent_of self result ≡ send_of self }
     {
-        let receiver = self.receiver;
-        let reply = receiver.reply;
-        if let Front::Frame(f) = reply.nak() {
-            return from_receiver(self, receiver.clear(), f, 1);
+        let r = self.receiver;
+        if let Some(f) = r.reply.nak() {
+            let receiver = r.clear();
+            return Ok(with_frame(End { receiver, ..self }, f, 1));
         }
-        if let Front::Frame(f) = reply.ack() {
-            return from_receiver(self, receiver.clear(), f, 2);
+        if let Some(f) = r.reply.ack() {
+            let receiver = r.clear();
+            return Ok(with_frame(End { receiver, ..self }, f, 2));
         }
-        if let Found::At(i) = receiver.first_marked() {
-            return from_receiver(self, receiver.told(i), receiver.update_frame(i), 3);
+        if let Some(i) = r.first_marked() {
+            let receiver = r.told(i);
+            return Ok(with_frame(End { receiver, ..self }, r.update_frame(i), 3));
         }
-        let sender = self.sender;
-        let replay = sender.replay;
-        let at = replay.at;
-        if let Found::At(i) = at {
-            return from_sender(self, sender.replayed(i), sender.replay_frame(i), 4);
+        let s = self.sender;
+        if let Some(i) = s.replay.at {
+            let sender = s.replayed(i);
+            return Ok(with_frame(End { sender, ..self }, s.replay_frame(i), 4));
         }
-        let New::At { channel, place } = sender.new_packet() else {
-            return Sent {
-                end: self,
-                frame: Front::Nothing,
-                answer: 18,
-                detail: 0,
-            };
-        };
-        from_sender(
-            self,
-            sender.sent_new(channel, place),
-            sender.new_frame(channel, place),
-            5,
-        )
+        let (channel, place) = s.new_packet().ok_or(Refusal::NoFrame)?;
+        let sender = s.sent_new(channel, place);
+        Ok(with_frame(End { sender, ..self }, s.new_frame(channel, place), 5))
     }
 
-    fn heard(self, f: Frame) -> Stepped
-        ensures { result ≡ heard self f }
+    fn heard(self, f: Frame) -> Result<After<End>, Refusal>
+        ensures { stepped_of self result ≡ heard self f }
     {
         match f {
             Frame::Packet(number, p) => {
-                let receiver = self.receiver;
-                by_receiver(
-                    self,
-                    delivery::arrive(receiver, self.channel_for(p), number, p),
-                )
+                let got = delivery::arrive(self.receiver, self.channel_for(p), number, p)?;
+                Ok(by_receiver(self, got))
             }
             Frame::Message(m) => {
-                let sender = self.sender;
-                by_sender(self, hearing::hear(sender, m))
+                let sender = hearing::hear(self.sender, m)?;
+                Ok(bare(End { sender, ..self }))
             }
         }
     }
 
     // A frame arrives whole.
-    pub fn arrive(self, f: Frame) -> Stepped
-        ensures { result ≡ arrive_of self f }
+    #[tactic(auto, using(answers::proofs::Outcomes::no_refusal_is_0), unfolding(crate::specs::Ends::arrive_of))]
+    pub fn arrive(self, f: Frame) -> Result<After<End>, Refusal>
+        ensures { stepped_of self result ≡ arrive_of self f }
     {
-        if f.answer(self.setup.n) != 0 {
-            return Stepped {
-                end: self,
-                answer: 27,
-                detail: 0,
-            };
-        }
+        f.answer(self.setup.n)?;
         self.heard(f)
     }
 
-    // A frame arrives damaged.
-    pub fn damage(self, f: Frame) -> Stepped
-        ensures { result ≡ damage_of self f }
+    // A frame arrives damaged. It is never refused.
+    #[tactic(auto, unfolding(crate::specs::Ends::damage_of))]
+    pub fn damage(self, f: Frame) -> After<End>
+        ensures { stepped_of self (Ok result) ≡ damage_of self f }
     {
-        let Frame::Packet(_, _) = f else {
-            return Stepped {
-                end: self,
-                answer: 0,
-                detail: 4,
-            };
+        let end = match f {
+            Frame::Packet(_, _) => {
+                let receiver = delivery::damage(self.receiver);
+                End { receiver, ..self }
+            }
+            Frame::Message(_) => self,
         };
-        let receiver = self.receiver;
-        let got = delivery::damage(receiver);
-        let mut end = self;
-        end.receiver = got;
-        Stepped {
-            end,
-            answer: 0,
+        After {
+            state: end,
             detail: 4,
         }
     }
 
-    pub fn take(self, channel: u8, category: u8) -> Stepped
-        ensures { result ≡ take_at self channel category }
+    pub fn take(self, channel: u8, category: u8) -> Result<After<End>, Refusal>
+        ensures { stepped_of self result ≡ take_at self channel category }
     {
-        let receiver = self.receiver;
-        by_receiver(
-            self,
-            delivery::take(receiver, self.setup.n, channel, category),
-        )
+        let got = delivery::take(self.receiver, self.setup.n, channel, category)?;
+        Ok(by_receiver(self, got))
     }
 
-    pub fn timer(self) -> Stepped
-        ensures { result ≡ timer_of self }
+    pub fn timer(self) -> Result<After<End>, Refusal>
+        ensures { stepped_of self result ≡ timer_of self }
     {
-        let sender = self.sender;
-        by_sender(self, sender.timer())
+        let sender = self.sender.timer()?;
+        Ok(bare(End { sender, ..self }))
     }
 
-    pub fn refresh(self) -> Stepped
-        ensures { result ≡ refresh_of self }
+    // All updates of channels in use are marked. It is never refused.
+    #[tactic(auto, unfolding(crate::specs::Ends::refresh_of))]
+    pub fn refresh(self) -> After<End>
+        ensures { stepped_of self (Ok result) ≡ refresh_of self }
     {
         let receiver = self.receiver.refresh(self.setup.n);
-        let mut end = self;
-        end.receiver = receiver;
-        Stepped {
-            end,
-            answer: 0,
-            detail: 0,
-        }
+        bare(End { receiver, ..self })
     }
 }

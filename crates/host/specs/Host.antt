@@ -1,26 +1,17 @@
--- What the thin functions of a host's end are made of: each step on the part that it may change, and what it says.
+-- What the thin functions of a host's end say of a step: its answer and detail, and for Send the frame.
 -- Assumes nothing.
-use Rattle.std.specs.Prelude.{ℕ, eqb, if◌then◌else◌}
+use Rattle.std.specs.Prelude.{ℕ, Option, Some, None, Result, Ok, Err}
+use Rattle.answers.specs.declared.Refusal.{Refusal}
+use Rattle.answers.specs.Answers.{number_of}
 use Rattle.frames.specs.declared.Frame.{Frame}
-use Rattle.sender.specs.declared.Replay.{Replay}
-use Rattle.sender.specs.Sender.{begun}
-use Rattle.receiver.specs.declared.Reply.{Reply}
-use Rattle.receiver.specs.declared.Receiver.{Receiver}
-use Rattle.receiver.specs.Receiver.{refreshed, after_gap}
-use Rattle.ends.specs.declared.End.{End}
-use Rattle.ends.specs.declared.Stepped.{Stepped}
-use Rattle.ends.specs.declared.Sent.{Sent}
-use Rattle.ends.specs.Ends.{arrive_of}
-use Rattle.ends.specs.Sends.{send_of}
-use Rattle.host.specs.declared.Said.{Said}
-use Rattle.host.specs.declared.Outgoing.{Outgoing}
-use Rattle.host.specs.declared.Timed.{Timed}
-use Rattle.host.specs.declared.Refreshed.{Refreshed}
-use Rattle.host.specs.declared.Damaged.{Damaged}
-use Rattle.host.specs.declared.Arrived.{Arrived}
-use Rattle.host.specs.declared.Sends.{Sends}
+use Rattle.ends.specs.Ends.{Stepped}
+use Rattle.ends.specs.Sends.{Sent}
+use Rattle.host.specs.declared.Given.{Given}
 
--- ---- the answers
+-- answer and detail
+pub record Said : Type 0 where
+  pub answer : ℕ
+  pub detail : ℕ
 
 abbrev pub said : ℕ → ℕ → Said
 said answer detail = record { answer = answer; detail = detail }
@@ -28,27 +19,22 @@ said answer detail = record { answer = answer; detail = detail }
 abbrev pub said_of : Stepped → Said
 said_of s = said s.answer s.detail
 
+-- what is said of the detail that is given; a refusal has detail 0
+abbrev pub said_by : Result ℕ Refusal → Said
+said_by (Ok detail) = said 0 detail
+said_by (Err refusal) = said (number_of refusal) 0
+
+-- what Send gives: no frame where no frame applies
+pub record Outgoing : Type 0 where
+  pub said : Said
+  pub frame : Option Frame
+
+abbrev pub outgoing : Said → Option Frame → Outgoing
+outgoing s f = record { said = s; frame = f }
+
 abbrev pub outgoing_of : Sent → Outgoing
-outgoing_of s = record { said = said s.answer s.detail; frame = s.frame }
+outgoing_of s = outgoing (said s.answer s.detail) s.frame
 
--- ---- the steps on their parts
-
-abbrev pub timer_on : ℕ → Replay → Timed
-timer_on unacknowledged r =
-    if eqb unacknowledged 0 then record { answer = 23; replay = r } else record { answer = 0; replay = begun r }
-
-abbrev pub refresh_on : ℕ → Receiver → Refreshed
-refresh_on n r = record { answer = 0; receiver = refreshed r n }
-
-abbrev pub reply_after : Reply → Frame → Reply
-reply_after r (Frame.Packet number p) = after_gap r
-reply_after r (Frame.Message m) = r
-
-abbrev pub damage_on : Reply → Frame → Damaged
-damage_on r f = record { said = said 0 4; reply = reply_after r f }
-
-abbrev pub arrive_on : End → Frame → Arrived
-arrive_on e f = record { said = said_of (arrive_of e f); end = (arrive_of e f).end }
-
-abbrev pub send_on : End → Sends
-send_on e = record { outgoing = outgoing_of (send_of e); end = (send_of e).end }
+abbrev pub outgoing_by : Result Given Refusal → Outgoing
+outgoing_by (Ok x) = outgoing (said 0 x.detail) (Some x.frame)
+outgoing_by (Err refusal) = outgoing (said (number_of refusal) 0) None

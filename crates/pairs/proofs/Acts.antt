@@ -1,11 +1,10 @@
--- The eight steps by their numbers.
+-- The steps by their numbers; Timer and Refresh need no law.
 -- Assumes nothing.
 use Rattle.std.specs.Prelude.{if◌then◌else◌}
 use Prim.Native.Nat.{ℕ}
 use mathlib.Core.Path.{◌≡◌}
-use borrow.Author.Tests.{ne_eqb}
 use Rattle.script.specs.declared.Step.{Step}
-use Rattle.ends.specs.Ends.{submit_of, arrive_of, damage_of, take_at, timer_of, refresh_of}
+use Rattle.ends.specs.Ends.{submit_of, arrive_of, damage_of, take_at}
 use Rattle.pairs.specs.declared.Pair.{Pair}
 use Rattle.pairs.specs.Pairs.{end_at, by_end, send_at, reach_at, lose_at}
 use Rattle.pairs.specs.Steps.{packet_of, act}
@@ -34,13 +33,3 @@ module _ (p : Pair) (t : Step) where
   pub takes : t.step ≡ 6 → by_end p t.end (take_at (end_at p t.end) t.class t.kind) ≡ act p t
   unfolding act
   takes e = simp (act, e)
-
-  pub times : t.step ≡ 7 → by_end p t.end (timer_of (end_at p t.end)) ≡ act p t
-  unfolding act
-  times e = simp (act, e)
-
-  pub refreshes : (t.step ≡ 1 → ⊥) → (t.step ≡ 2 → ⊥) → (t.step ≡ 3 → ⊥) → (t.step ≡ 4 → ⊥) → (t.step ≡ 5 → ⊥) → (t.step ≡ 6 → ⊥) → (t.step ≡ 7 → ⊥)
-      → by_end p t.end (refresh_of (end_at p t.end)) ≡ act p t
-  unfolding act
-  refreshes a b c d e f g =
-      simp (act, ne_eqb _ 1 a, ne_eqb _ 2 b, ne_eqb _ 3 c, ne_eqb _ 4 d, ne_eqb _ 5 e, ne_eqb _ 6 f, ne_eqb _ 7 g)

@@ -1,6 +1,6 @@
 -- Numbers that are too large for their types are refused as they are: Submit and Take answer the same for a capped number.
 -- Assumes nothing.
-use Rattle.std.specs.Prelude.{if◌then◌else◌}
+use Rattle.std.specs.Prelude.{if◌then◌else◌, Some, None}
 use Prim.Native.Nat.{ℕ, ◌≤◌, ◌<◌}
 use mathlib.Core.Path.{◌≡◌, refl, sym, ap, ◌∙◌}
 use mathlib.Core.Logic.{◌≢◌}
@@ -15,10 +15,9 @@ use Rattle.basics.proofs.Each.{by_order_lem}
 use Rattle.setup.specs.Setup.{channels}
 use Rattle.packets.specs.declared.Packet.{Packet}
 use Rattle.packets.specs.declared.Rule.{Rule}
-use Rattle.packets.specs.declared.Numbered.TheVariants as Numbered
 use Rattle.packets.specs.Packets.{rules, no_rule, rule_of, numbered, packet_answer, kind_answer, class_answer, length_answer}
 use Rattle.receiver.specs.declared.Receiver.{Receiver}
-use Rattle.delivery.specs.declared.Got.{Got}
+use Rattle.delivery.specs.Delivery.{Got}
 use Rattle.delivery.specs.Delivery.{got, taken_by, take_of}
 use Rattle.ends.specs.declared.End.{End}
 use Rattle.ends.specs.Ends.{stepped, submit_answer, submit_of, take_at, by_receiver}
@@ -112,7 +111,7 @@ module _ (t : Step) where
 
 -- ---- Take
 
-numbered_over : (k : ℕ) → 2 < k → numbered k ≡ Numbered.Nothing
+numbered_over : (k : ℕ) → 2 < k → numbered k ≡ None
 numbered_over k h = rw (ne_eqb k 0 (λ e. omega arith), ne_eqb k 1 (λ e. omega arith), ne_eqb k 2 (λ e. omega arith))
 
 module _ (r : Receiver) (n : ℕ) where

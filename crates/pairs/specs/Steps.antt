@@ -13,7 +13,7 @@ use Rattle.ends.specs.declared.End.{End}
 use Rattle.ends.specs.Ends.{submit_of, arrive_of, damage_of, take_at, timer_of, refresh_of}
 use Rattle.shape.specs.Shape.{in_shape}
 use Rattle.pairs.specs.declared.Pair.{Pair}
-use Rattle.pairs.specs.declared.Done.{Done}
+use Rattle.pairs.specs.Pairs.{Done}
 use Rattle.pairs.specs.Pairs.{done, end_at, line_at, by_end, send_at, reach_at, lose_at}
 
 -- the packet of a Submit

@@ -1,38 +1,16 @@
--- Laws of a row of steps: a change made once more, and Takes until one is refused.
+-- Laws of a row of steps: Takes until one is refused, and a change made so many times.
 -- Assumes nothing.
 use Prim.Native.Nat.{ℕ, zero, suc, ◌+◌, ◌-◌, ◌≤◌, ◌<◌}
 use mathlib.Core.Path.{◌≡◌, refl, ◌∙◌}
 use mathlib.Core.Bool.{false}
 use native.Mathlib.Nat.{not-suc-le-zero}
-use native.Mathlib.Numerals.{add-one}
 use native.Mathlib.Omega.{arith}
 use lib.Dec.{eqb}
 use borrow.Author.Tests.{eq-eqb}
+use Rattle.std.specs.List.{fold, range_with_len}
 use Rattle.pairs.specs.declared.Pair.{Pair}
-use Rattle.pairs.specs.declared.Done.{Done}
-use Rattle.rounds.specs.Rounds.{times, take_of, take_until, takes_on, takes_below}
-
--- ---- a change, again and again
-
-module _ (change : Pair → Pair) (p : Pair) where
-  pub no-times : p ≡ times 0 change p
-  unfolding times
-  no-times = refl
-
-  pub once_more : (n : ℕ) (q r : Pair) → q ≡ times n change p → r ≡ change q → r ≡ times (n + 1) change p
-  unfolding times
-  once_more n q r e f = f ∙ rw (add-one n, e)
-
--- ---- one channel more
-
-module _ (p : Pair) (end : ℕ) where
-  pub no-channels : p ≡ takes_below 0 p end
-  unfolding takes_below
-  no-channels = refl
-
-  pub one_channel_more : (c : ℕ) (q r : Pair) → q ≡ takes_below c p end → r ≡ takes_on q end c → r ≡ takes_below (c + 1) p end
-  unfolding takes_below
-  one_channel_more c q r e f = f ∙ rw (add-one c, e)
+use Rattle.pairs.specs.Pairs.{Done}
+use Rattle.rounds.specs.Rounds.{times, take_of, take_until}
 
 -- ---- Take until refused
 
@@ -54,3 +32,14 @@ module _ (end channel category : ℕ) where
     taken (suc left) h e =
         let less : suc left - 1 ≡ left = omega arith in
         simp (← is, eq-eqb _ _ e, less)
+
+-- ---- a change made so many times, as a fold over so many numbers
+
+pub fold_times : (change : Pair → Pair) (p : Pair) (a n : ℕ) → fold (λ q x. change q) p (range_with_len a n) ≡ times n change p
+unfolding times
+fold_times change p a zero = refl
+fold_times change p a (suc n) = fold_times change (change p) (a + 1) n ∙ front n p
+  where
+    front : (n : ℕ) (p : Pair) → times n change (change p) ≡ change (times n change p)
+    front zero p = refl
+    front (suc n) p = rw (front n p)

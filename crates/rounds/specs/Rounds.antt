@@ -4,7 +4,7 @@ use Rattle.std.specs.Prelude.{ℕ, zero, suc, eqb, if◌then◌else◌}
 use Rattle.script.specs.declared.Step.{Step}
 use Rattle.setup.specs.Setup.{channels}
 use Rattle.pairs.specs.declared.Pair.{Pair}
-use Rattle.pairs.specs.declared.Done.{Done}
+use Rattle.pairs.specs.Pairs.{Done}
 use Rattle.pairs.specs.Steps.{step_of}
 
 -- Send 2, Arrive 3, Timer 7 and Refresh 8 have no use for the other fields

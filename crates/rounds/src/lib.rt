@@ -2,52 +2,55 @@
 #![tactic(auto)]
 
 ghost use Rattle.std.specs.Prelude.{◌≡◌};
+ghost use Rattle.script.specs.Step.{action_number};
+ghost use Rattle.pairs.specs.Pairs.{done_of};
 ghost use Rattle.rounds.specs.Rounds.{did, exchange, times, take_of, take_until, most_takes, takes_on, takes_at, opening, quiet_round, quiet_rounds};
 
-use pairs::{Done, Pair};
-use script::Step;
+use answers::{After, Refusal};
+use pairs::Pair;
+use script::{Action, Step};
 use setup::CHANNELS;
 
 // The pair after a step that has no use for the other fields.
-fn did(p: Pair, step: u32, end: u32) -> Pair
-    ensures { result ≡ did p step end }
+#[tactic(auto, unfolding(crate::specs::Rounds::did))]
+fn did(p: Pair, action: Action, end: u32) -> Pair
+    ensures { result ≡ did p (action_number action) end }
 {
-    let d = p.step(Step {
-        step,
+    let t = Step {
+        step: action.number(),
         end,
         class: 0,
         kind: 0,
         length: 0,
         ident: 0,
-    });
-    let pair = d.pair;
-    pair
+    };
+    match p.step(t) {
+        Ok(after) => after.state,
+        Err(_) => p,
+    }
 }
 
 // Send 0, Arrive 1, Send 1, Arrive 0.
+#[tactic(auto, unfolding(crate::specs::Rounds::exchange))]
 fn exchange(p: Pair) -> Pair
     ensures { result ≡ exchange p }
 {
-    did(did(did(did(p, 2, 0), 3, 1), 2, 1), 3, 0)
+    let there = did(did(p, Action::Send, 0), Action::Arrive, 1);
+    did(did(there, Action::Send, 1), Action::Arrive, 0)
 }
 
 fn exchanges(p: Pair) -> Pair
     ensures { result ≡ times 1024 exchange p }
 {
-    let mut r = p;
-    let mut i: usize = 0;
-    while i < 1024 {
-        r = exchange(r);
-        i += 1;
-    }
-    r
+    (0..1024usize).fold(p, |r, _| exchange(r))
 }
 
-fn take(p: Pair, end: u32, channel: u32, category: u32) -> Done
-    ensures { result ≡ take_of p end channel category }
+#[tactic(auto, unfolding(crate::specs::Rounds::take_of))]
+fn take(p: Pair, end: u32, channel: u32, category: u32) -> Result<After<Pair>, Refusal>
+    ensures { done_of p result ≡ take_of p end channel category }
 {
     p.step(Step {
-        step: 6,
+        step: Action::Take.number(),
         end,
         class: channel,
         kind: category,
@@ -61,19 +64,17 @@ fn take_until(p: Pair, end: u32, channel: u32, category: u32) -> Pair
     ensures { result ≡ take_until most_takes p end channel category }
 {
     let mut r = p;
-    let mut left: usize = 49;
-    while 0 < left {
-        let d = take(r, end, channel, category);
-        if d.answer != 0 {
+    for _ in 0..49usize {
+        let Ok(after) = take(r, end, channel, category) else {
             return r;
-        }
-        r = d.pair;
-        left -= 1;
+        };
+        r = after.state;
     }
     r
 }
 
 // P until refused, then NP, then C.
+#[tactic(auto, unfolding(crate::specs::Rounds::takes_on))]
 fn takes_on(p: Pair, end: u32, channel: u32) -> Pair
     ensures { result ≡ takes_on p end channel }
 {
@@ -86,37 +87,27 @@ fn takes_on(p: Pair, end: u32, channel: u32) -> Pair
 fn takes_at(p: Pair, end: u32) -> Pair
     ensures { result ≡ takes_at p end }
 {
-    let mut r = p;
-    let mut channel: usize = 0;
-    while channel < CHANNELS {
-        r = takes_on(r, end, channel as u32);
-        channel += 1;
-    }
-    r
+    (0..CHANNELS).fold(p, |r, channel| takes_on(r, end, channel as u32))
 }
 
 // Timer at 0, at 1; Refresh at 0, at 1.
+#[tactic(auto, unfolding(crate::specs::Rounds::opening))]
 fn opening(p: Pair) -> Pair
     ensures { result ≡ opening p }
 {
-    did(did(did(did(p, 7, 0), 7, 1), 8, 0), 8, 1)
+    let timed = did(did(p, Action::Timer, 0), Action::Timer, 1);
+    did(did(timed, Action::Refresh, 0), Action::Refresh, 1)
 }
 
+#[tactic(auto, unfolding(crate::specs::Rounds::quiet_round))]
 pub fn quiet_round(p: Pair) -> Pair
     ensures { result ≡ quiet_round p }
 {
-    let exchanged = exchanges(opening(p));
-    takes_at(takes_at(exchanged, 0), 1)
+    takes_at(takes_at(exchanges(opening(p)), 0), 1)
 }
 
 pub fn quiet_rounds(p: Pair, n: usize) -> Pair
     ensures { result ≡ quiet_rounds n p }
 {
-    let mut r = p;
-    let mut i = 0;
-    while i < n {
-        r = quiet_round(r);
-        i += 1;
-    }
-    r
+    (0..n).fold(p, |r, _| quiet_round(r))
 }

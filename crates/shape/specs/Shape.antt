@@ -1,11 +1,9 @@
 -- The shape of an end's state: a step on a state that is out of shape answers 10. Document 01's list, in its order.
 -- The rules go over all channels, also over those that are not in use. Each heading quotes the fault; the definition under it
 -- says that it is not there. Lines stand in pairs/Steps. Assumes nothing.
-use Rattle.std.specs.Prelude.{ℕ, ◌+◌, ◌*◌, Bool, true, ◌&&◌, ◌||◌, not, List, leb, ltb, eqb, length}
+use Rattle.std.specs.Prelude.{ℕ, ◌+◌, ◌*◌, Bool, true, ◌&&◌, ◌||◌, not, List, leb, ltb, eqb, length, Some, None, Option}
 use Rattle.basics.specs.Lists.{all}
 use Rattle.basics.specs.Each.{each}
-use Rattle.basics.specs.declared.Found.{Found}
-use Rattle.basics.specs.declared.Found.TheVariants.{At, Nothing}
 use Rattle.counters.specs.declared.Counts.{Counts}
 use Rattle.counters.specs.Counters.{data_range, next_of, after_of}
 use Rattle.credits.specs.declared.Credit.{Credit}
@@ -106,9 +104,9 @@ numbers_run s = eqb (after_of (next_of s.acked) s.buffer.len).0 s.next.0
 
 -- ---- a running replay's next packet isn't in that buffer
 
-abbrev pub place_in : Found → ℕ → Bool
-place_in (At i) len = ltb i len
-place_in Nothing len = true
+abbrev pub place_in : Option ℕ → ℕ → Bool
+place_in (Some i) len = ltb i len
+place_in None len = true
 
 unfoldable pub replay_in : Sender → Bool
 replay_in s = place_in s.replay.at s.buffer.len

@@ -1,23 +1,18 @@
--- `pairs::line_fits` meets its contract: the invariant: what was found and what is left make the whole.
+-- `pairs::line_fits` meets its contract: std's `all` asks each frame on the line.
 -- Assumes nothing.
-use native.Mathlib.Omega.{arith}
-use Prim.Native.Nat.{◌<◌}
-use mathlib.Core.Path.{refl, sym, ◌∙◌}
-use lib.ListN.{length}
-use Rattle.basics.proofs.Loops.{all_both, all_left}
-use Rattle.line.specs.Line.{on_line, blank}
+use Rattle.std.proofs.Common.{rules}
+use mathlib.Core.Path.{◌∙◌}
+use borrow.Author.Tests.{tests, le-leb}
+use Rattle.std.proofs.lemmas.Iterator.{YieldsList-from_slice}
+use Rattle.std.proofs.lemmas.Iterator.Search.{all_from_yields_List}
+use Rattle.shape.proofs.Alls.{all_list}
+use Rattle.line.specs.Line.{on_line}
 use Rattle.pairs.specs.Steps.{slot_fits, line_fits}
 use Rattle.pairs.proofs.line_fits.Goals as goal
 
-pub loop-i-init : goal.loop-i-init
-loop-i-init c = (omega arith, refl)
-
-pub loop-i-preserved : goal.loop-i-preserved
-loop-i-preserved c =
-    let here : c.loop-i.i < length (on_line c.args.l) = omega (arith, c.size_of-size.ensures.value) in
-    (omega arith, all_both (slot_fits c.args.n) c.args.l.slots c.args.l.len c.loop-i.i c.loop-i.fit blank c.both-fit.ensures c.slot_fits.ensures here ∙ c.loop-i.invariant.1)
-
-pub returns : goal.returns
+pub returns-then-l-le16 : goal.returns-then-l-le16
 unfolding line_fits
-returns c =
-    sym (all_left (slot_fits c.args.n) c.args.l.slots c.args.l.len c.loop-i.i c.loop-i.fit (omega (arith, c.size_of-size.ensures.value))) ∙ c.loop-i.invariant.1
+returns-then-l-le16 c =
+    rw (le-leb _ _ c.if-l-le16.true)
+    (all_from_yields_List (slot_fits c.args.n) _ _ _ c.all.ensures.ran (YieldsList-from_slice (on_line c.args.l) (cc)) (λ x b q k. search (rules, tests))
+    ∙ all_list (slot_fits c.args.n) (on_line c.args.l))

@@ -1,19 +1,14 @@
--- `rounds::exchanges` meets its contract: the invariant: so many were made.
+-- `rounds::exchanges` meets its contract: std's `fold` makes so many changes.
 -- Assumes nothing.
-use native.Mathlib.Omega.{arith}
-use mathlib.Core.Path.{◌≡◌}
+use Rattle.std.proofs.Common.{rules, refl}
+use mathlib.Core.Path.{◌∙◌}
+use Rattle.std.proofs.lemmas.Iterator.{YieldsList-from_range}
+use Rattle.std.proofs.lemmas.Iterator.Consumers.{fold_from_yields_List}
 use Rattle.rounds.specs.Rounds.{exchange}
-use Rattle.rounds.proofs.Rows.{no-times, once_more}
+use Rattle.rounds.proofs.Rows.{fold_times}
 use Rattle.rounds.proofs.exchanges.Goals as goal
-
-pub loop-i-init : goal.loop-i-init
-loop-i-init c = (omega arith, no-times exchange c.args.p)
-
-pub loop-i-preserved : goal.loop-i-preserved
-loop-i-preserved c =
-    (omega arith, once_more exchange c.args.p c.loop-i.i _ _ c.loop-i.invariant.1 c.exchange-r.ensures)
 
 pub returns : goal.returns
 returns c =
-    let e : c.loop-i.i ≡ 1024 = omega arith in
-    rw e at c.loop-i.invariant.1
+    fold_from_yields_List _ (λ q x. exchange q) c.args.p c.fold.result c.fold.ensures.ran (YieldsList-from_range 0 1024 1024 refl refl) (λ a x b q k. search rules)
+    ∙ fold_times exchange c.args.p 0 1024

@@ -1,20 +1,16 @@
--- `rounds::quiet_rounds` meets its contract: the invariant: so many were made.
+-- `rounds::quiet_rounds` meets its contract: std's `fold` makes so many changes.
 -- Assumes nothing.
-use native.Mathlib.Omega.{arith}
-use mathlib.Core.Path.{◌≡◌}
+use Rattle.std.proofs.Common.{rules, refl, ◌-◌, ◌≡◌, arith}
+use mathlib.Core.Path.{◌∙◌}
+use Rattle.std.proofs.lemmas.Iterator.{YieldsList-from_range}
+use Rattle.std.proofs.lemmas.Iterator.Consumers.{fold_from_yields_List}
 use Rattle.rounds.specs.Rounds.{quiet_round, quiet_rounds}
-use Rattle.rounds.proofs.Rows.{no-times, once_more}
+use Rattle.rounds.proofs.Rows.{fold_times}
 use Rattle.rounds.proofs.quiet_rounds.Goals as goal
-
-pub loop-i-init : goal.loop-i-init
-loop-i-init c = (omega arith, no-times quiet_round c.args.p)
-
-pub loop-i-preserved : goal.loop-i-preserved
-loop-i-preserved c =
-    (omega arith, once_more quiet_round c.args.p c.loop-i.i _ _ c.loop-i.invariant.1 c.quiet_round-r.ensures)
 
 pub returns : goal.returns
 unfolding quiet_rounds
 returns c =
-    let e : c.loop-i.i ≡ c.args.n = omega arith in
-    rw e at c.loop-i.invariant.1
+    let long : c.args.n - 0 ≡ c.args.n = omega arith in
+    fold_from_yields_List _ (λ q x. quiet_round q) c.args.p c.fold.result c.fold.ensures.ran (YieldsList-from_range 0 c.args.n c.args.n refl long) (λ a x b q k. search rules)
+    ∙ fold_times quiet_round c.args.p 0 c.args.n

@@ -1,18 +1,12 @@
--- `rounds::takes_at` meets its contract: the invariant: the channels passed were emptied.
+-- `rounds::takes_at` meets its contract: std's `fold` takes on each channel in turn.
 -- Assumes nothing.
-use native.Mathlib.Omega.{arith}
-use mathlib.Core.Path.{◌≡◌}
-use Rattle.rounds.proofs.Rows.{no-channels, one_channel_more}
+use Rattle.std.proofs.Common.{rules, refl}
+use Rattle.std.proofs.lemmas.Iterator.{YieldsList-from_range}
+use Rattle.std.proofs.lemmas.Iterator.Consumers.{fold_from_yields_List}
+use Rattle.rounds.specs.Rounds.{takes_on, takes_below}
 use Rattle.rounds.proofs.takes_at.Goals as goal
 
-pub loop-channel-init : goal.loop-channel-init
-loop-channel-init c = (omega arith, no-channels c.args.p c.args.end)
-
-pub loop-channel-preserved : goal.loop-channel-preserved
-loop-channel-preserved c =
-    (omega arith, one_channel_more c.args.p c.args.end c.loop-channel.channel _ _ c.loop-channel.invariant.1 c.takes_on-r.ensures)
-
 pub returns : goal.returns
+unfolding takes_below
 returns c =
-    let e : c.loop-channel.channel ≡ 4 = omega arith in
-    rw e at c.loop-channel.invariant.1
+    fold_from_yields_List _ (λ q x. takes_on q c.args.end x) c.args.p c.fold.result c.fold.ensures.ran (YieldsList-from_range 0 4 4 refl refl) (λ a x b q k. search rules)

@@ -1,21 +1,17 @@
--- `shape::all_formed` meets its contract: the invariant: what was found and what is left make the whole.
+-- `shape::all_formed` meets its contract: std's `all` asks each packet that is held.
 -- Assumes nothing.
-use native.Mathlib.Omega.{arith}
-use Prim.Native.Nat.{◌<◌}
-use mathlib.Core.Path.{refl, sym, ◌∙◌}
-use lib.ListN.{length}
-use Rattle.store.specs.Store.{held, no_packet}
-use Rattle.basics.proofs.Loops.{all_both, all_left}
+use Rattle.std.proofs.Common.{rules}
+use mathlib.Core.Path.{◌∙◌}
+use borrow.Author.Tests.{tests}
+use Rattle.std.proofs.lemmas.Iterator.{YieldsList-from_slice}
+use Rattle.std.proofs.lemmas.Iterator.Search.{all_from_yields_List}
+use Rattle.store.specs.Store.{held}
+use Rattle.shape.specs.Shape.{well_formed}
+use Rattle.shape.proofs.Alls.{all_list, front_same}
 use Rattle.shape.proofs.all_formed.Goals as goal
-
-pub loop-i-init : goal.loop-i-init
-loop-i-init c = (omega arith, refl)
-
-pub loop-i-preserved : goal.loop-i-preserved
-loop-i-preserved c =
-    let here : c.loop-i.i < length (held c.args.q) = omega (arith, c.size-n.ensures.value) in
-    (omega arith, all_both _ c.args.q.items c.args.q.len c.loop-i.i c.loop-i.fit no_packet c.both-fit.ensures c.well_formed-in-loop-i.ensures here ∙ c.loop-i.invariant.1)
 
 pub returns : goal.returns
 returns c =
-    sym (all_left _ c.args.q.items c.args.q.len c.loop-i.i c.loop-i.fit (omega (arith, c.size-n.ensures.value))) ∙ c.loop-i.invariant.1
+    all_from_yields_List well_formed _ _ _ c.all.ensures.ran (YieldsList-from_slice (held c.args.q) (rw c.size.ensures.value at c.iter.ensures.rest ∙ front_same c.args.q.len c.args.q.items))
+    (λ x b q k. search (rules, tests))
+    ∙ all_list well_formed (held c.args.q)

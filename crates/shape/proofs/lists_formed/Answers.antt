@@ -1,25 +1,16 @@
--- `shape::lists_formed` meets its contract: the invariant: what was found holds of each channel passed.
+-- `shape::lists_formed` meets its contract: std's `all` asks the list of each channel.
 -- Assumes nothing.
 use Rattle.std.proofs.Common.{rules}
-use native.Mathlib.Omega.{arith}
-use mathlib.Core.Path.{◌≡◌, refl}
-use lib.ListN.{length}
-use Rattle.basics.specs.Each.{each}
-use Rattle.basics.proofs.Loops.{each_element}
+use mathlib.Core.Path.{◌∙◌}
+use borrow.Author.Tests.{tests}
+use Rattle.std.proofs.lemmas.Iterator.{YieldsList-from_slice}
+use Rattle.std.proofs.lemmas.Iterator.Search.{all_from_yields_List}
 use Rattle.store.specs.Store.{empty}
 use Rattle.shape.specs.Shape.{all_formed}
+use Rattle.shape.proofs.Alls.{each_list}
 use Rattle.shape.proofs.lists_formed.Goals as goal
-
-pub loop-channel-init : goal.loop-channel-init
-unfolding each
-loop-channel-init c = (omega arith, refl)
-
-pub loop-channel-preserved : goal.loop-channel-preserved
-loop-channel-preserved c =
-    let long : length c.args.lists ≡ 4 = search rules in
-    (omega arith, each_element c.both-fit.ensures (λ k q. all_formed q) c.args.lists c.loop-channel.channel _ empty (omega arith) c.loop-channel.invariant.1 c.all_formed.ensures)
 
 pub returns : goal.returns
 returns c =
-    let e : c.loop-channel.channel ≡ 4 = omega arith in
-    rw e at c.loop-channel.invariant.1
+    all_from_yields_List all_formed _ _ _ c.all.ensures.ran (YieldsList-from_slice c.args.lists (cc)) (λ x b q k. search (rules, tests))
+    ∙ each_list all_formed c.args.lists empty (search rules)

@@ -2,8 +2,8 @@
 -- Assumes nothing.
 use Rattle.shape.proofs.place_in.Goals as goal
 
-pub returns-in-At : goal.returns-in-At
-returns-in-At c = simp c.in-At.is
+pub returns-in-Some : goal.returns-in-Some
+returns-in-Some c = simp c.in-Some.is
 
-pub returns-in-Nothing : goal.returns-in-Nothing
-returns-in-Nothing c = simp c.in-Nothing.is
+pub returns-in-None : goal.returns-in-None
+returns-in-None c = simp c.in-None.is

@@ -1,22 +1,16 @@
--- `shape::room_adds_up` meets its contract: the invariant: what was found holds of each channel passed.
+-- `shape::room_adds_up` meets its contract: std's `all` asks each channel.
 -- Assumes nothing.
-use native.Mathlib.Omega.{arith}
-use mathlib.Core.Path.{◌≡◌, refl}
-use Rattle.basics.specs.Each.{each}
-use Rattle.basics.proofs.Loops.{each_both}
+use Rattle.std.proofs.Common.{rules, refl}
+use mathlib.Core.Path.{◌∙◌}
+use borrow.Author.Tests.{tests}
+use Rattle.std.proofs.lemmas.Iterator.{YieldsList-from_range}
+use Rattle.std.proofs.lemmas.Iterator.Search.{all_from_yields_List}
 use Rattle.shape.specs.Shape.{channel_adds_up, room_adds_up}
+use Rattle.shape.proofs.Alls.{each_below}
 use Rattle.shape.proofs.room_adds_up.Goals as goal
-
-pub loop-channel-init : goal.loop-channel-init
-unfolding each
-loop-channel-init c = (omega arith, refl)
-
-pub loop-channel-preserved : goal.loop-channel-preserved
-loop-channel-preserved c =
-    (omega arith, each_both c.both-fit.ensures c.loop-channel.channel _ c.loop-channel.invariant.1 c.channel_adds_up.ensures)
 
 pub returns : goal.returns
 unfolding room_adds_up
 returns c =
-    let e : c.loop-channel.channel ≡ 4 = omega arith in
-    rw e at c.loop-channel.invariant.1
+    all_from_yields_List (channel_adds_up c.args.link c.args.r) _ _ _ c.all.ensures.ran (YieldsList-from_range 0 4 4 refl refl) (λ x b q k. search (rules, tests))
+    ∙ each_below (channel_adds_up c.args.link c.args.r) 4

@@ -1,6 +1,0 @@
--- `shape::room_fits` meets its contract.
--- Assumes nothing.
-use Rattle.shape.proofs.room_fits.Goals as goal
-
-pub returns : goal.returns
-returns c = simp (c.both.ensures, c.counts_fit-2.ensures, c.counts_fit.ensures)
