@@ -9,8 +9,7 @@ ghost use Rattle.pairs.specs.Pairs.{end_at, start_of};
 ghost use Rattle.words.specs.Words.{frame_in};
 ghost use Rattle.memory.specs.Hosted.{hosted_words, hosted_in, is_hosted, answer_in, said_in, packet, Leaves, sent_in, start_answer, started_end, shape_answer, retrains_in};
 
-use memory::Said;
-use memory::hosts::Sending;
+use memory::hosts::{Said, Sending};
 
 // A packet joins its channel's send queue.
 #[unsafe(no_mangle)]

@@ -1,14 +1,12 @@
 -- Laws of words that a refusal leaves as they were.
 -- Assumes nothing.
 use Prim.Native.Nat.{ℕ}
-use mathlib.Core.Path.{◌≡◌, refl, sym, ap, ◌∙◌}
+use mathlib.Core.Path.{◌≡◌, refl, sym, ◌∙◌}
 use mathlib.Core.Bool.{Bool, true, true≢false}
 use mathlib.Core.List.{List, ◌++◌}
-use lib.Dec.{eqb}
 use lib.ListN.{take, drop, take-append-drop}
 use Rattle.basics.specs.Parts.{part}
-use Rattle.memory.specs.declared.Said.{Said}
-use Rattle.memory.specs.Said.{said, Keeps}
+use Rattle.memory.specs.Said.{Keeps}
 
 -- a step that is made may change every word
 pub made_as : {m w : List ℕ} (t : Bool) → t ≡ true → Keeps t m w
@@ -16,10 +14,6 @@ made_as t e n = absurd (true≢false (sym e ∙ n))
 
 pub made : {m w : List ℕ} → Keeps true m w
 made = made_as true refl
-
--- what is said with a detail
-pub keeps-said : (m w : List ℕ) (r : Said) (answer detail : ℕ) → r ≡ said answer detail → Keeps (eqb answer 0) m w → Keeps (eqb r.answer 0) m w
-keeps-said m w r answer detail e h t = h (ap (λ (x : Said). eqb x.answer 0) (sym e) ∙ t)
 
 -- a lent part that comes back as it was leaves the whole as it was
 pub keeps-back : (m : List ℕ) (a k : ℕ) (ys : List ℕ) (t : Bool) → Keeps t (part m a k) ys → Keeps t m (take a m ++ (ys ++ drop k (drop a m)))

@@ -1,18 +1,21 @@
 -- The words of a list of packets: its size, the packet at a place, one more, and a run of it left out by moving the later words down.
 -- Assumes that it has all its words.
-use Prim.Native.Nat.{ℕ, ◌+◌, ◌-◌, ◌≤◌, ◌<◌}
+use Prim.Native.Nat.{ℕ, ◌+◌, ◌-◌, ◌≤◌, ◌<◌, min}
 use mathlib.Core.Path.{◌≡◌, refl, sym, ap, ◌∙◌}
-use mathlib.Core.Bool.{◌&&◌}
-use mathlib.Core.List.{List, map, ◌++◌}
+use Rattle.std.specs.Prelude.{position}
+use mathlib.Core.Bool.{Bool, ◌&&◌}
+use mathlib.Core.List.{List, [], ◌∷◌, map, ◌++◌}
 use native.Mathlib.Omega.{arith}
 use native.Mathlib.Nat.{not-suc-le-zero}
 use borrow.Author.Tests.{lt-ltb, le-leb, leb-true}
 use lib.Dec.{leb}
 use lib.ListN.{length, get_or, take, drop, set, length-take, length-drop, length-set}
-use lib.Seq.{drop-paste, length_paste_head, take-append-add, take-take, take-set-le, take-set-lt, get_or-drop, get_or-take, get_or-set_same}
+use lib.Seq.{length_paste_head, take-append-add, take-take, take_all, take-set-le, take-set-lt, get_or-take, get_or-set_same}
 use Rattle.basics.proofs.Branches.{by_test, and_left, and_right}
 use Rattle.basics.proofs.Maps.{length_made}
-use Rattle.basics.proofs.Shift.{moved, moved_more, length_moved, drop-take}
+use Rattle.basics.specs.Lists.{find}
+use Rattle.basics.proofs.Each.{by_order_lem}
+use Rattle.basics.proofs.Shift.{moved, length_moved, drop-take}
 use Rattle.basics.proofs.Walk.{kept}
 use Rattle.packets.specs.declared.Category.{Category}
 use Rattle.packets.specs.declared.Category.TheVariants.{Posted, NonPosted, Completion}
@@ -20,26 +23,27 @@ use Rattle.packets.specs.Packets.{number_of}
 use Rattle.credits.specs.Credits.{none, credit}
 use Rattle.choice.specs.Choice.{credit_of}
 use Rattle.store.specs.declared.Packets.{Packets}
+use Rattle.store.proofs.Chains.{std_position}
 use Rattle.store.specs.Store.{packets, no_packet, held, at, pushed, without}
 use Rattle.words.specs.Words.{packet_in, credit_in}
 use Rattle.words.specs.Memory.{places, list_words, packets_in}
-use Rattle.words.proofs.Patched.{map-set, map_paste, map-drop, get_or_mapped}
+use Rattle.words.proofs.Patched.{map-set, map_paste, map-drop, map-take, get_or_mapped}
+
+-- ---- the first of a row that passes a test, where the test reads each word
+
+module _ {A B : Type 0} (ok : B → Bool) (g : A → B) where
+  find_mapped : (xs : List A) (k : ℕ) → find (λ x. ok (g x)) xs k ≡ find ok (map g xs) k
+  find_mapped [] k = refl
+  find_mapped (x ∷ xs) k = rw (find_mapped xs (k + 1))
+
+  pub position_mapped : (xs : List A) → position (λ x. ok (g x)) xs ≡ find ok (map g xs) 0
+  position_mapped xs = std_position (λ x. ok (g x)) xs ∙ find_mapped xs 0
 
 -- ---- words moved down
 
 module _ {A : Type 0} (xs : List A) (a b k : ℕ) (order : a ≤ b) (long : b + k ≤ length xs) where
   room : k ≤ length (drop b xs)
   room = rw length-drop (omega arith)
-
-  -- what stands behind them stays
-  get_or-behind : (i : ℕ) (d : A) → a + k ≤ i → get_or (moved xs a b k) i d ≡ get_or xs i d
-  get_or-behind i d h =
-      let e : i ≡ a + k + (i - (a + k)) = omega arith in
-      ap (λ (j : ℕ). get_or (moved xs a b k) j d) e
-      ∙ sym (get_or-drop (a + k) (moved xs a b k) (i - (a + k)) d)
-      ∙ ap (λ r. get_or r (i - (a + k)) d) (drop-paste xs a (drop b xs) k (omega arith) room)
-      ∙ get_or-drop (a + k) xs (i - (a + k)) d
-      ∙ ap (λ (j : ℕ). get_or xs j d) (sym e)
 
   -- they move in the front as they move in the whole
   take_within : (m : ℕ) → b + k ≤ m → take m (moved xs a b k) ≡ moved (take m xs) a b k
@@ -55,14 +59,6 @@ module _ {A : Type 0} (xs : List A) (a b k : ℕ) (order : a ≤ b) (long : b + 
         take-take k (m - b) (drop b xs) (omega arith),
         drop-take (a + k) m xs (omega arith),
       )
-
--- one word more: it is read where no word was written yet
-pub moved_one : {A : Type 0} (xs ys : List A) (a b k : ℕ) (d : A) → a ≤ b → b ≤ k → k < length xs → ys ≡ moved xs a b (k - b)
-    → set ys (a + (k - b)) (get_or ys k d) ≡ moved xs a b (k + 1 - b)
-moved_one xs ys a b k d order h l is =
-    let e : k + 1 - b ≡ k - b + 1 = omega arith in
-    rw (is, e, get_or-behind xs a b (k - b) order (omega arith) k d (omega arith))
-    (moved_more xs a b (k - b) (a + (k - b)) k d refl (omega arith) order l)
 
 -- past its places there is nothing to take out
 pub none_past : (q : Packets) (a b : ℕ) → places < b → q ≡ without q a b
@@ -81,11 +77,20 @@ module _ (q : List ℕ) (long : length q ≡ list_words) where
   length_items : length (packets_in q).items ≡ places
   length_items = length_made packet_in q places (omega arith)
 
-  pub size_few : get_or q places 0 < places → get_or q places 0 ≡ length (held (packets_in q))
-  size_few h = rw length-take (omega (arith, length_items))
+  pub size_is : (n : ℕ) → n ≡ min (get_or q places 0) places → n ≡ length (held (packets_in q))
+  size_is n e = rw length-take (omega (arith, length_items, e))
 
-  pub size-all : places ≤ get_or q places 0 → places ≡ length (held (packets_in q))
-  size-all h = rw length-take (omega (arith, length_items))
+  -- what it holds, read from as many words
+  pub held_is : (n : ℕ) → n ≡ length (held (packets_in q)) → held (packets_in q) ≡ map packet_in (take n q)
+  held_is n e =
+      let k : n ≡ min (get_or q places 0) places = rw length-take at e ∙ omega (arith, length_items) in
+      by_order_lem (get_or q places 0) places
+      (λ h.
+      let few : n ≡ get_or q places 0 = omega arith in
+      rw (few, ← map-take, take-take (get_or q places 0) places q (omega arith)))
+      (λ h.
+      let all : n ≡ places = omega arith in
+      rw (all, take_all (get_or q places 0) (map packet_in (take places q)) (omega (arith, length_items))))
 
   pub item_is : (i : ℕ) → i < places → get_or (packets_in q).items i no_packet ≡ packet_in (get_or q i 0)
   item_is i h =

@@ -1,26 +1,29 @@
--- Laws of an array that is read from a memory place by place: from a word each, or from a part of one width each. Places 0 to i - 1 are read,
--- and behind them stands what was there first. They hold of any elements. Assumes nothing.
+-- Laws of an array that is read from a memory place by place, and of the halves and the pair read from their parts.
+-- Assumes of the halves and the pair that they have all their words.
 use Rattle.std.specs.Prelude.{if◌then◌else◌}
-use Prim.Native.Nat.{ℕ, ◌+◌, ◌*◌, ◌≤◌, ◌<◌}
-use mathlib.Core.Path.{◌≡◌, sym, ap, ◌∙◌}
+use Prim.Native.Nat.{ℕ, zero, suc, ◌+◌, ◌*◌, ◌≤◌, ◌<◌}
+use mathlib.Core.Path.{◌≡◌, refl, sym, ap, ◌∙◌}
 use mathlib.Core.List.{List, [], ◌∷◌, ◌++◌, map, append-nil}
 use native.Mathlib.Omega.{arith}
 use borrow.Author.Tests.{eq-eqb}
 use lib.Dec.{eqb}
-use lib.ListN.{length, get_or, take, drop, set, take-append-drop}
+use lib.ListN.{length, get_or, take, drop, take-append-drop}
 use lib.Seq.{take-length, drop-length, drop-nil, length-take-le}
-use Rattle.basics.specs.Parts.{part, cut}
-use Rattle.basics.proofs.Parts.{filled, filled-set, filled_whole, length-read, read_more}
-use Rattle.basics.proofs.Maps.{length_made, made_more}
+use Rattle.std.specs.Array.{IsFromFnResult, IsFromFnResultFrom}
+use Rattle.std.proofs.lemmas.List.{ext_get_or}
+use denote.Param.Members.{Mut, Called}
+use Rattle.basics.specs.Parts.{part}
+use Rattle.basics.proofs.Each.{by_order_lem}
 use Rattle.basics.proofs.Places.{get_or_any}
 use Rattle.counters.specs.declared.Seq.{Seq}
 use Rattle.credits.specs.declared.Credit.{Credit}
 use Rattle.credits.specs.declared.Room.{Room}
-use Rattle.frames.specs.declared.Frame.{Frame}
 use Rattle.line.specs.declared.Line.{Line}
 use Rattle.line.specs.Line.{slot}
 use Rattle.setup.specs.declared.Setup.{Setup}
-use Rattle.setup.specs.Setup.{channels, per_end, blank_setup}
+use Rattle.basics.proofs.Branches.{by_test}
+use Rattle.pairs.specs.Pairs.{Paired}
+use Rattle.setup.specs.Setup.{in_range, channels, per_end, blank_setup}
 use Rattle.store.specs.declared.Packets.{Packets}
 use Rattle.sender.specs.declared.Replay.{Replay}
 use Rattle.sender.specs.Sender.{sender}
@@ -28,38 +31,36 @@ use Rattle.receiver.specs.declared.Reply.{Reply}
 use Rattle.receiver.specs.Receiver.{receiver}
 use Rattle.ends.specs.declared.End.{End}
 use Rattle.pairs.specs.declared.Pair.{Pair}
-use Rattle.pairs.specs.Pairs.{pair}
+use Rattle.pairs.specs.Pairs.{pair, pair_of, start_of}
 use Rattle.words.specs.Words.{credit_in, room_in, seq_in, frame_in}
 use Rattle.words.specs.Memory.{list_words, packets_in, lists_in, buffer_at, credits_at, next_at, acked_at, sender_words, sender_in, rooms_at, receiver_words, receiver_in, line_words, slot_in, line_in, end_words, end_in, lines_at, pair_words, pair_in}
 use Rattle.words.proofs.Patched.{part-get_or}
 use Rattle.words.proofs.Lists.{lists_same}
 
--- ---- from a word each
+-- ---- an array made by a call at each place: ys is zs, where each call gives the element of zs at its place and leaves the closure as it was
 
-module _ {A B : Type 0} (f : A → B) (m : List A) (old all : List B) (i : ℕ) (is : all ≡ filled i (map f (take i m)) old) where
-  pub word_read : (d : A) (x : B) → x ≡ f (get_or m i d) → i < length m → i < length old → set all i x ≡ filled (i + 1) (map f (take (i + 1) m)) old
-  word_read d x e h room =
-      rw (is, made_more f m i d h, ← e) (filled-set i (map f (take i m)) old (length_made f m i (omega arith)) x x room)
+module _ {F B : Type 0} (g : Mut F (ℕ × Unit {0}) B) (f : F) (ys zs : List B) (d : B) where
+  abbrev Gives : ℕ → Type 0
+  Gives i = (y : B) (q : F) → Called g f (i, tt) y q → (q ≡ f) × (y ≡ get_or zs i d)
 
-  pub words_read : (n : ℕ) → i ≡ n → length old ≡ n → n ≤ length m → all ≡ map f (take n m)
-  words_read n e room h = is ∙ rw e (filled_whole n (map f (take n m)) old (length_made f m n h) room)
+  each_is : (i n : ℕ) → ((j : ℕ) → j < i + n → Gives j) → IsFromFnResultFrom g f ys i n → (j : ℕ) → i ≤ j → j < i + n → get_or ys j d ≡ get_or zs j d
+  each_is i zero h r j low high = absurd (omega arith)
+  each_is i (suc n) h r j low high =
+      let here = h i (omega arith) r.1 r.0 r.3 in
+      let rest = rw here.0 at r.4 in
+      by_order_lem i j (λ l. each_is (i + 1) n (λ k b. h k (omega arith)) rest j (omega arith) (omega arith))
+      (λ l. let e : j ≡ i = omega arith in rw e (r.2.1 d ∙ here.1))
 
--- ---- from a part each
-
-module _ {A B : Type 0} (f : List A → B) (w : ℕ) (m : List A) (old all : List B) (i : ℕ) (is : all ≡ filled i (map f (cut w i m)) old) where
-  pub part-read : (x : B) → x ≡ f (part m (w * i) w) → i < length old → set all i x ≡ filled (i + 1) (map f (cut w (i + 1) m)) old
-  part-read x e room =
-      rw (is, read_more f w i m, ← e) (filled-set i (map f (cut w i m)) old (length-read f w i m) x x room)
-
-  pub parts_read : (n : ℕ) → i ≡ n → length old ≡ n → all ≡ map f (cut w n m)
-  parts_read n e room = is ∙ rw e (filled_whole n (map f (cut w n m)) old (length-read f w n m) room)
+  pub made_of : (n : ℕ) → length zs ≡ n → IsFromFnResult g f ys n → ((i : ℕ) → i < n → Gives i) → ys ≡ zs
+  made_of n e r h =
+      ext_get_or d ys zs (r.long ∙ sym e) (λ i l. each_is 0 n (λ j b. h j (omega arith)) r.each i (omega arith) (omega (arith, r.long)))
 
 -- ---- a place of a line, from its two words
 
-pub slot_read : (l : List ℕ) (i : ℕ) (x : Frame) → x ≡ frame_in (get_or l (2 * i) 0) (get_or l (2 * i + 1) 0) → slot x ≡ slot_in (part l (2 * i) 2)
-slot_read l i x e =
+pub slot_read : (l : List ℕ) (i : ℕ) → slot (frame_in (get_or l (2 * i) 0) (get_or l (2 * i + 1) 0)) ≡ slot_in (part l (2 * i) 2)
+slot_read l i =
     let z : 2 * i + 0 ≡ 2 * i = omega arith in
-    rw (e, part-get_or l (2 * i) 2 0 0 (omega arith), part-get_or l (2 * i) 2 1 0 (omega arith), z)
+    rw (part-get_or l (2 * i) 2 0 0 (omega arith), part-get_or l (2 * i) 2 1 0 (omega arith), z)
 
 -- ---- all lists of a half, from its front
 
@@ -96,3 +97,8 @@ pub pair_read : (links : List Setup) (m : List ℕ) (d : Setup) (none : Pair) �
 unfolding pair_in
 pair_read links m d none two long a b k l ea eb ek el =
     rw (eq-eqb (length m) pair_words long, ea, eb, ek, el, get_or_any links 0 d blank_setup (omega arith), get_or_any links 1 d blank_setup (omega arith))
+
+-- where there is no pair, that of the blank setup
+pub blank_started : (start_of blank_setup).pair ≡ pair_of blank_setup
+unfolding start_of
+blank_started = by_test (λ (x : Paired). x.pair ≡ pair_of blank_setup) (in_range blank_setup) (λ t. refl) (λ t. refl)

@@ -1,14 +1,14 @@
 -- What a link message does at the sending half, in the steps that the code takes.
 -- Where words are named, the half has all of them. Assumes nothing else.
-use Prim.Native.Nat.{ℕ, ◌≤◌, ◌<◌}
+use Rattle.std.specs.Prelude.{Option, ℕ, if◌then◌else◌}
+use Prim.Native.Nat.{ℕ, ◌<◌}
 use mathlib.Core.Path.{◌≡◌, refl, sym, ap, ◌∙◌}
 use mathlib.Core.Logic.{◌≢◌}
 use mathlib.Core.Bool.{Bool, true, false}
 use mathlib.Core.List.{List}
-use borrow.Author.Tests.{lt-ltb, le-ltb, eq-eqb, ne_eqb}
+use borrow.Author.Tests.{lt-ltb, eq-eqb, ne_eqb}
 use borrow.Rule.Slice.PartMut.{put_mid}
 use lib.ListN.{length, get_or, set, length-set}
-use Rattle.basics.specs.declared.Found.{Found}
 use Rattle.counters.specs.declared.Counts.{Counts}
 use Rattle.counters.specs.declared.Retrain.{Retrain}
 use Rattle.counters.specs.declared.Seq.{Seq}
@@ -22,7 +22,7 @@ use Rattle.store.specs.Store.{released}
 use Rattle.setup.specs.Setup.{channels}
 use Rattle.sender.specs.declared.Replay.{Replay}
 use Rattle.sender.specs.declared.Sender.{Sender}
-use Rattle.sender.specs.declared.Told.{Told}
+use Rattle.sender.specs.Sender.{Told}
 use Rattle.sender.specs.Sender.{replay, sender, credit_at, with_credit, with_replay, begun, told}
 use Rattle.hearing.specs.Hearing.{releases, moved, acknowledged, again, limited, answered}
 use Rattle.words.specs.Words.{seq_in}
@@ -35,6 +35,11 @@ use Rattle.memory.proofs.SendingLaws.{with_buffer, with_acked, acked-read}
 
 pub told_as : (t u : Told) (r : ℕ) (b : Sender) → t ≡ u → (r ≡ u.answer) × (b ≡ u.sender) → (r ≡ t.answer) × (b ≡ t.sender)
 told_as t u r b e f = (f.0 ∙ ap (λ (x : Told). x.answer) (sym e), f.1 ∙ ap (λ (x : Told). x.sender) (sym e))
+
+-- a refusal with one number has that number
+only : (b : Bool) (r n : ℕ) → r ≡ (if b then 0 else n) → r ≢ 0 → r ≡ n
+only true r n e h = absurd (h e)
+only false r n e h = e
 
 -- ---- the words that an Ack or Nak reads
 
@@ -65,10 +70,10 @@ module _ (s : List ℕ) (long : length s ≡ sender_words) where
 -- ---- an accepted number: the buffer is released, then the number stored, then the replay moved
 
 module _ (a : Sender) (number : Seq) where
-  left : ℕ → Found → Retrain → Sender
+  left : ℕ → Option ℕ → Retrain → Sender
   left k place retrains = sender a.queues a.credits (released a.buffer k) a.next number (replay place 0 retrains)
 
-  pub acknowledged-steps : (b c d : Sender) (k : ℕ) (place : Found) (run : Replay) → run ≡ a.replay → k ≡ releases a number
+  pub acknowledged-steps : (b c d : Sender) (k : ℕ) (place : Option ℕ) (run : Replay) → run ≡ a.replay → k ≡ releases a number
       → b ≡ with_buffer a (released a.buffer k)
       → place ≡ moved k b.buffer.len run.at
       → c ≡ with_acked b number
@@ -78,16 +83,16 @@ module _ (a : Sender) (number : Seq) where
   acknowledged-steps b c d k place run r e q p n o =
       o
       ∙ ap (λ (x : Sender). with_replay x (replay place 0 run.retrains)) (n ∙ ap (λ (x : Sender). with_acked x number) q)
-      ∙ ap (λ (x : Found). left k x run.retrains) (p ∙ ap (λ (x : Sender). moved k x.buffer.len run.at) q)
+      ∙ ap (λ (x : Option ℕ). left k x run.retrains) (p ∙ ap (λ (x : Sender). moved k x.buffer.len run.at) q)
       ∙ ap (λ (x : Replay). left k (moved k (released a.buffer k).len x.at) x.retrains) r
       ∙ ap (λ (j : ℕ). left j (moved j (released a.buffer j).len a.replay.at) a.replay.retrains) e
 
 -- ---- an Ack or Nak
 
 module _ (a : Sender) (number : Seq) (nak : Bool) (r : ℕ) (e : r ≡ ack_answer a.acked a.buffer.len number) where
-  pub answered-not : r ≢ 0 → (24 ≡ (answered a number nak).answer) × (a ≡ (answered a number nak).sender)
+  pub answered-not : r ≢ 0 → (r ≡ (answered a number nak).answer) × (a ≡ (answered a number nak).sender)
   unfolding answered
-  answered-not h = told_as (answered a number nak) (told a 24) 24 a (simp (answered, ne_eqb _ _ (rw e at h))) (refl, refl)
+  answered-not h = told_as (answered a number nak) (told a 24) r a (simp (answered, ne_eqb _ _ (rw e at h))) (only _ r 24 e h, refl)
 
   module _ (h : r ≡ 0) (b : Sender) (f : b ≡ acknowledged a number) where
     pub answered-nak : (c : Sender) → nak ≡ true → c ≡ again b → (0 ≡ (answered a number nak).answer) × (c ≡ (answered a number nak).sender)
@@ -102,18 +107,14 @@ module _ (a : Sender) (number : Seq) (nak : Bool) (r : ℕ) (e : r ≡ ack_answe
 -- ---- an update
 
 module _ (a : Sender) (channel : ℕ) (c : Category) (limits : Counts) where
-  pub limited_past : channels ≤ channel → (25 ≡ (limited a channel c limits).answer) × (a ≡ (limited a channel c limits).sender)
-  unfolding limited
-  limited_past h = told_as (limited a channel c limits) (told a 25) 25 a (simp (limited, le-ltb channel channels h)) (refl, refl)
-
   module _ (here : channel < channels) (x : Credit) (e : x ≡ credit_at a (slot_of channel c)) (r : ℕ) (f : r ≡ update_answer x.limit limits) where
     asked : r ≡ update_answer (credit_at a (slot_of channel c)).limit limits
     asked = f ∙ ap (λ (y : Credit). update_answer y.limit limits) e
 
-    pub limited-not : r ≢ 0 → (25 ≡ (limited a channel c limits).answer) × (a ≡ (limited a channel c limits).sender)
-    unfolding limited
+    pub limited-not : r ≢ 0 → (r ≡ (limited a channel c limits).answer) × (a ≡ (limited a channel c limits).sender)
+    unfolding limited update_answer
     limited-not h =
-        told_as (limited a channel c limits) (told a 25) 25 a (simp (limited, lt-ltb channel channels here, ne_eqb _ _ (rw asked at h))) (refl, refl)
+        told_as (limited a channel c limits) (told a 25) r a (simp (limited, lt-ltb channel channels here, ne_eqb _ _ (rw asked at h))) (only _ r 25 f h, refl)
 
     pub limited_goes : r ≡ 0 → (b : Sender) → b ≡ with_credit a (slot_of channel c) (updated x limits)
         → (0 ≡ (limited a channel c limits).answer) × (b ≡ (limited a channel c limits).sender)

@@ -1,42 +1,27 @@
 -- The receiving half in lent words, over plain values: the form in which a lent part comes back, the walks along the rooms,
 -- and what several writes in a row come to. Assumes that it has all its words.
-use Prim.Native.Nat.{ℕ, suc, ◌+◌, ◌-◌, ◌*◌, ◌%◌, ◌≤◌, ◌<◌}
+use Prim.Native.Nat.{ℕ, suc, ◌+◌, ◌-◌, ◌*◌, ◌≤◌, ◌<◌, min}
 use mathlib.Core.Path.{◌≡◌, refl, sym, ap, ◌∙◌}
-use mathlib.Core.Bool.{true, false, not}
-use mathlib.Core.List.{List, [], ◌∷◌, ◌++◌, map}
+use mathlib.Core.List.{List, ◌++◌, map}
 use native.Mathlib.Omega.{arith}
-use native.Mathlib.Numerals.{add-one}
-use lib.Dec.{eqb}
 use lib.ListN.{length, get_or, take, drop, set, length-map, drop_of_length-le}
 use lib.Seq.{drop-cons, take_all, get_or_at}
-use Rattle.basics.specs.Lists.{find}
 use Rattle.basics.specs.Parts.{part}
-use Rattle.basics.specs.declared.Found.TheVariants.{At, Nothing}
-use Rattle.basics.proofs.Walk.{find-end}
+use Rattle.basics.proofs.Each.{by_order_lem}
 use Rattle.basics.proofs.Maps.{length_made, made_more}
-use Rattle.basics.proofs.Parts.{filled, filled-set, stored}
+use Rattle.basics.proofs.Parts.{filled, filled-set}
 use Rattle.setup.specs.Setup.{channels, per_end}
 use Rattle.credits.specs.declared.Room.{Room}
 use Rattle.credits.specs.Credits.{none, room_of, marked}
 use Rattle.store.specs.declared.Packets.{Packets}
 use Rattle.receiver.specs.declared.Reply.{Reply}
 use Rattle.receiver.specs.declared.Receiver.{Receiver}
-use Rattle.receiver.specs.Receiver.{receiver, inbox_at, room_at, with_reply, with_room, is_marked, refreshed}
+use Rattle.receiver.specs.Receiver.{receiver, inbox_at, room_at, with_reply, with_room, refreshed}
 use Rattle.words.specs.Words.{room_in}
-use Rattle.words.specs.Memory.{list_words, packets_in, rooms_at, reply_at, receiver_words, owed_in, reply_in, receiver_in}
+use Rattle.words.specs.Memory.{list_words, packets_in, rooms_at, reply_at, receiver_words, reply_in, receiver_in}
 use Rattle.words.proofs.Patched.{back_patched, length_part}
 use Rattle.words.proofs.Receiving.{inbox_is, put-inbox, room-is, put_room, put_reply, inbox-keeps, reply-keeps, set_keeps}
 use Rattle.memory.specs.Receiving.{with_inbox}
-
--- ---- the three words of a reply
-
-pub written-reply : (x : List ℕ) (y : Reply) (flag owed : ℕ) → length x ≡ 3 → y.next_receive.0 < 65536
-    → not (eqb flag 0) ≡ y.nak_sent → owed_in owed ≡ y.owed
-    → (reply_in (set (set (set x 0 y.next_receive.0) 1 flag) 2 owed) ≡ y)
-    × (length (set (set (set x 0 y.next_receive.0) 1 flag) 2 owed) ≡ 3)
-written-reply x y flag owed long b f o =
-    let n : y.next_receive.0 % 65536 ≡ y.next_receive.0 = omega arith in
-    rw (stored x (y.next_receive.0 ∷ flag ∷ owed ∷ []) long) (rw (n, f, o), refl)
 
 -- how many words of a receive buffer are lent, as the code says it
 abbrev lent : ℕ → ℕ
@@ -76,20 +61,6 @@ module _ (r : List ℕ) (long : length r ≡ receiver_words) where
   pub length_rooms : length (receiver_in r).rooms ≡ per_end
   unfolding receiver_in
   length_rooms = rw length-map (length_part r rooms_at per_end (omega arith))
-
-  module _ (i : ℕ) (h : i < per_end) where
-    rooms_next : drop i (receiver_in r).rooms ≡ room_in (get_or r (rooms_at + i) 0) ∷ drop (i + 1) (receiver_in r).rooms
-    rooms_next = rw (room-is r long i h, add-one i) (drop-cons (receiver_in r).rooms i (room_of none) (omega (arith, length_rooms)))
-
-    pub marked-here : is_marked (room_in (get_or r (rooms_at + i) 0)) ≡ true → find is_marked (drop i (receiver_in r).rooms) i ≡ At i
-    marked-here e = rw (rooms_next, e)
-
-    pub marked_next : is_marked (room_in (get_or r (rooms_at + i) 0)) ≡ false
-        → find is_marked (drop i (receiver_in r).rooms) i ≡ find is_marked (drop (i + 1) (receiver_in r).rooms) (i + 1)
-    marked_next e = rw (rooms_next, e)
-
-  pub marked-end : (i : ℕ) → per_end ≤ i → find is_marked (drop i (receiver_in r).rooms) i ≡ Nothing
-  marked-end i h = find-end (receiver_in r).rooms i (omega (arith, length_rooms)) is_marked
 
 -- ---- the rooms are marked from the front
 
@@ -132,3 +103,9 @@ mark_turn a l r long i w h e m =
 pub marked_all : (a : Receiver) (i n : ℕ) → i ≡ 3 * n → marking a i ≡ refreshed a n
 unfolding refreshed
 marked_all a i n e = rw e
+
+-- as far as there are rooms
+pub marked_used : (a : Receiver) → length a.rooms ≡ per_end → (i n : ℕ) → i ≡ min per_end (3 * n) → marking a i ≡ refreshed a n
+marked_used a long i n e =
+    by_order_lem (3 * n) per_end (λ h. marked_all a i n (omega arith))
+    (λ h. marking_all a long i (3 * n) (omega arith) h ∙ marked_all a (3 * n) n refl)

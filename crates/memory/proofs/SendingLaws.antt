@@ -1,21 +1,19 @@
 -- What the words of the sending half mean once a part of them comes back, and what its parts read as.
 -- Assumes that the half has all its words.
-use Prim.Native.Nat.{ℕ, ◌+◌, ◌-◌, ◌*◌, ◌%◌, ◌≤◌, ◌<◌}
+use Rattle.std.specs.Prelude.{Some, None, Option, ℕ}
+use Prim.Native.Nat.{ℕ, ◌+◌, ◌-◌, ◌*◌, ◌≤◌, ◌<◌}
 use mathlib.Core.Path.{◌≡◌, refl, sym, ap, ◌∙◌}
 use mathlib.Core.Logic.{◌≢◌}
-use mathlib.Core.List.{List, [], ◌∷◌, ◌++◌, map}
+use mathlib.Core.List.{List, [], ◌∷◌, map}
 use native.Mathlib.Omega.{arith}
 use borrow.Author.Tests.{lt-ltb, le-ltb}
 use borrow.Rule.Slice.PartMut.{put_mid}
-use lib.ListN.{length, get_or, set, take, drop, length-set, length-append, length-drop, get_or-eq_default}
+use lib.ListN.{length, get_or, set, take, drop, get_or-eq_default}
 use lib.Seq.{set_out}
-use Rattle.basics.specs.declared.Found.{Found}
-use Rattle.basics.specs.declared.Found.TheVariants.{At, Nothing}
 use Rattle.basics.specs.Parts.{part, cut}
 use Rattle.counters.specs.declared.Counts.{Counts}
 use Rattle.counters.specs.declared.Seq.{Seq}
-use Rattle.counters.specs.Wrapped.{plus}
-use Rattle.counters.specs.Counters.{seq, next_of}
+use Rattle.counters.specs.Counters.{next_of}
 use Rattle.credits.specs.declared.Credit.{Credit}
 use Rattle.credits.specs.Credits.{spent}
 use Rattle.packets.specs.Packets.{number_of, slot_of, category_of, need_of}
@@ -27,7 +25,6 @@ use Rattle.choice.specs.Choice.{chosen}
 use Rattle.setup.specs.Setup.{channels}
 use Rattle.sender.specs.declared.Replay.{Replay}
 use Rattle.sender.specs.declared.Sender.{Sender}
-use Rattle.sender.specs.declared.New.TheVariants as New
 use Rattle.sender.specs.Sender.{replay, sender, queue_at, credit_at, with_queue, with_credit, with_replay, submitted, begun, timer_of}
 use Rattle.sender.specs.Sources.{place_after, buffer_bound, credits_of, chosen_in, highest, new_of, new_packet, sent_new}
 use Rattle.sender.proofs.Changes.{timer-refused, timer_starts}
@@ -64,37 +61,14 @@ two-written (x ∷ []) a b h = absurd (omega arith)
 two-written (x ∷ y ∷ []) a b h = refl
 two-written (x ∷ y ∷ z ∷ zs) a b h = absurd (omega arith)
 
-module _ (x : List ℕ) (h : length x ≡ 2) (place : Found) where
-  pub place_at : (i : ℕ) → place ≡ At i
+module _ (x : List ℕ) (h : length x ≡ 2) (place : Option ℕ) where
+  pub place_at : (i : ℕ) → place ≡ Some i
       → (found_in (get_or (set (set x 0 1) 1 i) 0 0) (get_or (set (set x 0 1) 1 i) 1 0) ≡ place) × (length (set (set x 0 1) 1 i) ≡ 2)
   place_at i e = rw (two-written x 1 i h, e) (refl, refl)
 
-  pub place_none : place ≡ Nothing
+  pub place_none : place ≡ None
       → (found_in (get_or (set (set x 0 0) 1 0) 0 0) (get_or (set (set x 0 0) 1 0) 1 0) ≡ place) × (length (set (set x 0 0) 1 0) ≡ 2)
   place_none e = rw (two-written x 0 0 h, e) (refl, refl)
-
-four-written : (x y : List ℕ) (a b : ℕ) → length x ≡ 4 → length y ≡ 2
-    → set (set (y ++ drop 2 x) 2 a) 3 b ≡ get_or y 0 0 ∷ get_or y 1 0 ∷ a ∷ b ∷ []
-four-written x [] a b h e = absurd (omega arith)
-four-written x (y ∷ []) a b h e = absurd (omega arith)
-four-written [] (y ∷ z ∷ []) a b h e = absurd (omega arith)
-four-written (p ∷ []) (y ∷ z ∷ []) a b h e = absurd (omega arith)
-four-written (p ∷ q ∷ []) (y ∷ z ∷ []) a b h e = absurd (omega arith)
-four-written (p ∷ q ∷ r ∷ []) (y ∷ z ∷ []) a b h e = absurd (omega arith)
-four-written (p ∷ q ∷ r ∷ s ∷ []) (y ∷ z ∷ []) a b h e = refl
-four-written (p ∷ q ∷ r ∷ s ∷ t ∷ ts) (y ∷ z ∷ []) a b h e = absurd (omega arith)
-four-written x (y ∷ z ∷ w ∷ ws) a b h e = absurd (omega arith)
-
-pub four-long : (x y : List ℕ) (a : ℕ) → length x ≡ 4 → length y ≡ 2 → length (set (y ++ drop 2 x) 2 a) ≡ 4
-four-long x y a h e = simp (length-set, length-append, length-drop) (omega arith)
-
-pub replay-written : (x y : List ℕ) (r : Replay) → length x ≡ 4 → length y ≡ 2 → found_in (get_or y 0 0) (get_or y 1 0) ≡ r.at
-    → r.count < 256 → r.retrains.0 < 65536
-    → (replay_in (set (set (y ++ drop 2 x) 2 r.count) 3 r.retrains.0) ≡ r) × (length (set (set (y ++ drop 2 x) 2 r.count) 3 r.retrains.0) ≡ 4)
-replay-written x y r h e f m n =
-    let count : r.count % 256 ≡ r.count = omega arith in
-    let again : r.retrains.0 % 65536 ≡ r.retrains.0 = omega arith in
-    rw (four-written x y r.count r.retrains.0 h e, f, count, again) (refl, refl)
 
 -- ---- parts that come back
 
@@ -159,7 +133,7 @@ module _ (s : List ℕ) (long : length s ≡ sender_words) where
       ∙ ap (λ (x : List Credit). chosen x q) (credits_are s long channel h)
       ∙ ap (λ (x : Packets). chosen (credits_of (sender_in s) channel) (held x)) (queue-read channel h)
 
-  pub new_none : buffer_bound ≤ get_or s 244 0 → New.Nothing ≡ new_of (sender_in s)
+  pub new_none : buffer_bound ≤ get_or s 244 0 → None ≡ new_of (sender_in s)
   unfolding new_of
   new_none h = simp (new_of, le-ltb _ _ (rw (out_is s long) at h))
 
@@ -210,33 +184,24 @@ module _ (s : List ℕ) (long : length s ≡ sender_words) where
   unfolding sender_in
   next-read = refl
 
-  pub next-back : (x : Seq) → x ≡ next_of (seq_in (get_or s next_at 0))
-      → (sender_in (set s next_at x.0)
+  pub next-back : (w : ℕ) (x : Seq) → seq_in w ≡ x → x ≡ next_of (seq_in (get_or s next_at 0))
+      → (sender_in (set s next_at w)
       ≡ with_next (sender_in s) (next_of (sender_in s).next))
-      × (length (set s next_at x.0) ≡ sender_words)
-  unfolding plus
-  next-back x e =
-      let f : x.0 ≡ ((sender_in s).next.0 + 1) % 4096 = ap (λ (y : Seq). y.0) e ∙ ap (λ (y : Seq). (next_of y).0) next-read in
-      let g : x.0 % 65536 ≡ ((sender_in s).next.0 + 1) % 4096 = omega arith in (
-        put_next s long x.0
-            ∙ ap (λ (y : ℕ). with_next (sender_in s) (seq y)) g,
-        set_keeps s long next_at x.0,
-      )
+      × (length (set s next_at w) ≡ sender_words)
+  next-back w x is e = (
+    put_next s long w ∙ ap (with_next (sender_in s)) (is ∙ e ∙ ap next_of next-read),
+    set_keeps s long next_at w,
+  )
 
-  pub acked-back : (x : Seq) → x.0 < 65536
-      → (sender_in (set s acked_at x.0)
+  pub acked-back : (w : ℕ) (x : Seq) → seq_in w ≡ x
+      → (sender_in (set s acked_at w)
       ≡ with_acked (sender_in s) x)
-      × (length (set s acked_at x.0) ≡ sender_words)
-  acked-back x h =
-      let g : x.0 % 65536 ≡ x.0 = omega arith in (
-        put-acked s long x.0
-            ∙ ap (λ (y : ℕ). with_acked (sender_in s) (seq y)) g,
-        set_keeps s long acked_at x.0,
-      )
+      × (length (set s acked_at w) ≡ sender_words)
+  acked-back w x is = (put-acked s long w ∙ ap (with_acked (sender_in s)) is, set_keeps s long acked_at w)
 
   -- ---- the replay goes on
 
-  pub replay_goes : (run : Replay) (place : Found) (i : ℕ) → run ≡ (sender_in s).replay → place ≡ place_after i (get_or s 244 0)
+  pub replay_goes : (run : Replay) (place : Option ℕ) (i : ℕ) → run ≡ (sender_in s).replay → place ≡ place_after i (get_or s 244 0)
       → replay place run.count run.retrains
       ≡ replay (place_after i (sender_in s).buffer.len) (sender_in s).replay.count (sender_in s).replay.retrains
   replay_goes run place i e f = rw (f, e, out_is s long)

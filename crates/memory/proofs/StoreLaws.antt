@@ -3,18 +3,16 @@
 use Rattle.std.specs.Prelude.{if◌then◌else◌}
 use Prim.Native.Nat.{ℕ, suc, ◌+◌, ◌-◌, ◌*◌, ◌≤◌, ◌<◌}
 use mathlib.Core.Path.{◌≡◌, refl, sym, ap, ◌∙◌}
-use mathlib.Core.List.{List, [], ◌∷◌, ◌++◌, map, map-append}
+use mathlib.Core.List.{List, [], ◌∷◌, ◌++◌, map}
 use native.Mathlib.Numerals.{add-one}
 use native.Mathlib.Omega.{arith}
 use borrow.Author.Tests.{eq-eqb}
 use lib.Dec.{eqb}
 use lib.ListN.{length, get_or, take, drop, set, length-set}
-use lib.Seq.{take-suc, take-suc-set, take-set-le, get_or-set_same}
+use lib.Seq.{take-suc, take-set-le, get_or-set_same}
 use Rattle.basics.specs.Parts.{cut}
 use Rattle.basics.proofs.Parts.{read_more, listed, listed_all}
 use Rattle.basics.proofs.Places.{get_or_any}
-use Rattle.counters.specs.declared.Seq.{Seq}
-use Rattle.counters.specs.Counters.{seq}
 use Rattle.setup.specs.declared.Setup.{Setup}
 use Rattle.setup.specs.Setup.{channels, per_end, blank_setup}
 use Rattle.store.specs.declared.Packets.{Packets}
@@ -38,14 +36,6 @@ use Rattle.words.proofs.Receiving.{put_reply}
 use Rattle.words.proofs.Whole.{put-sending, put-receiving, put-end, put-line}
 use Rattle.memory.specs.Unasked.{setups_of}
 use Rattle.memory.proofs.LoadLaws.{lists_whole}
-
--- ---- a word each: the first i words mean the first i of what is given
-
-module _ {A B : Type 0} (f : A → B) (m : List A) (given : List B) (i : ℕ) (is : map f (take i m) ≡ take i given) where
-  pub word-stored : (w : A) (d : B) → f w ≡ get_or given i d → i < length m → i < length given
-      → map f (take (i + 1) (set m i w)) ≡ take (i + 1) given
-  word-stored w d e h room =
-      rw (add-one i, take-suc-set m i w h, map-append, is, e) (sym (take-suc given i d room))
 
 -- ---- a part of one width each
 
@@ -78,6 +68,13 @@ module _ (l : List ℕ) (given : List Slot) (i : ℕ) (is : map slot_in (cut 2 i
 pub packets-stored : (q : List ℕ) (p : Packets) → length q ≡ list_words → map packet_in (take places q) ≡ p.items → packets_in (set q places p.len) ≡ p
 packets-stored q p long e =
     rw (take-set-le places q places p.len (omega arith), e, get_or-set_same q places p.len 0 (omega arith))
+
+-- its items are lent, and come back as ys
+pub packets-back : (q : List ℕ) → length q ≡ list_words → (p : Packets) (ys : List ℕ) → length ys ≡ places → map packet_in ys ≡ p.items
+    → packets_in (set (take 0 q ++ (ys ++ drop places (drop 0 q))) places p.len) ≡ p
+packets-back q long p ys few e =
+    rw (back_patched q 0 places ys few)
+    (packets-stored (patched q 0 ys) p (length_patched q 0 ys (omega arith) ∙ long) (rw (part_same q 0 ys (omega arith) places few) e))
 
 pub line-stored : (l : List ℕ) (x : Line) → length l ≡ line_words → map slot_in (cut 2 line_places l) ≡ x.slots → line_in (set l (2 * line_places) x.len) ≡ x
 unfolding line_in
@@ -160,14 +157,11 @@ module _ {R : Type 0} (read : List ℕ → R) (n : ℕ) where
     then_word : (k w : ℕ) → read (set m k w) ≡ g (read m) → Holds (set m k w) (g v)
     then_word k w is = (is ∙ ap g h.0, length-set m k w ∙ h.1)
 
-seq-round : (q : Seq) → q.0 < 65536 → seq_in q.0 ≡ q
-seq-round q h = ap seq (omega arith)
-
-module _ (s : List ℕ) (long : length s ≡ sender_words) (x : Sender) (qs bs ks rs : List ℕ) where
+module _ (s : List ℕ) (long : length s ≡ sender_words) (x : Sender) (qs bs ks : List ℕ) (n a : ℕ) (rs : List ℕ) where
   pub sender-stored : lists_in qs ≡ x.queues → length qs ≡ buffer_at → packets_in bs ≡ x.buffer → length bs ≡ list_words
-      → map credit_in ks ≡ x.credits → length ks ≡ per_end → x.next.0 < 65536 → x.acked.0 < 65536 → replay_in rs ≡ x.replay → length rs ≡ 4
+      → map credit_in ks ≡ x.credits → length ks ≡ per_end → seq_in n ≡ x.next → seq_in a ≡ x.acked → replay_in rs ≡ x.replay → length rs ≡ 4
       → Holds sender_in sender_words
-      (back (set (set (back (back (back s 0 buffer_at qs) buffer_at list_words bs) credits_at per_end ks) next_at x.next.0) acked_at x.acked.0) replay_at 4 rs) x
+      (back (set (set (back (back (back s 0 buffer_at qs) buffer_at list_words bs) credits_at per_end ks) next_at n) acked_at a) replay_at 4 rs) x
   sender-stored eq lq eb lb ek lk hn ha er lr =
       let first = then_part sender_in sender_words s (sender_in s) (refl, long)
       (λ (v : Sender). sender (lists_in qs) v.credits v.buffer v.next v.acked v.replay) 0 buffer_at qs lq (omega arith) (put_queues s long qs lq) in
@@ -176,12 +170,12 @@ module _ (s : List ℕ) (long : length s ≡ sender_words) (x : Sender) (qs bs k
       let third = then_part sender_in sender_words _ _ second
       (λ (v : Sender). sender v.queues (map credit_in ks) v.buffer v.next v.acked v.replay) credits_at per_end ks lk (omega arith) (put_credits _ second.1 ks lk) in
       let fourth = then_word sender_in sender_words _ _ third
-      (λ (v : Sender). sender v.queues v.credits v.buffer (seq_in x.next.0) v.acked v.replay) next_at x.next.0 (put_next _ third.1 x.next.0) in
+      (λ (v : Sender). sender v.queues v.credits v.buffer (seq_in n) v.acked v.replay) next_at n (put_next _ third.1 n) in
       let fifth = then_word sender_in sender_words _ _ fourth
-      (λ (v : Sender). sender v.queues v.credits v.buffer v.next (seq_in x.acked.0) v.replay) acked_at x.acked.0 (put-acked _ fourth.1 x.acked.0) in
+      (λ (v : Sender). sender v.queues v.credits v.buffer v.next (seq_in a) v.replay) acked_at a (put-acked _ fourth.1 a) in
       let last = then_part sender_in sender_words _ _ fifth (λ (v : Sender). with_replay v (replay_in rs)) replay_at 4 rs lr (omega arith) (put-replay _ fifth.1 rs lr) in
-      let is : sender (lists_in qs) (map credit_in ks) (packets_in bs) (seq_in x.next.0) (seq_in x.acked.0) (replay_in rs) ≡ x
-      = rw (eq, ek, eb, seq-round x.next hn, seq-round x.acked ha, er) in
+      let is : sender (lists_in qs) (map credit_in ks) (packets_in bs) (seq_in n) (seq_in a) (replay_in rs) ≡ x
+      = rw (eq, ek, eb, hn, ha, er) in
       (last.0 ∙ is, last.1)
 
 module _ (r : List ℕ) (long : length r ≡ receiver_words) (x : Receiver) (qs ks ys : List ℕ) where

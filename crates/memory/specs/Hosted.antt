@@ -1,23 +1,21 @@
 -- An end in memory that its host lends as words, its setup behind it: what the words mean, what a step there says, and what it leaves.
 -- Assumes nothing: words that are missing count as 0.
-use Rattle.std.specs.Prelude.{ℕ, ◌/◌, ◌%◌, ◌≡◌, Bool, true, false, ◌&&◌, List, map, eqb, ltb, length, get_or, if◌then◌else◌}
+use Rattle.frames.specs.declared.Frame.{Frame}
+use Rattle.std.specs.Prelude.{ℕ, ◌%◌, ◌≡◌, Bool, true, ◌&&◌, List, map, eqb, ltb, length, get_or, if◌then◌else◌, Some, None, Option}
 use Rattle.basics.specs.Choice.{first_of}
 use Rattle.basics.specs.Parts.{part}
 use Rattle.packets.specs.declared.Packet.{Packet}
-use Rattle.line.specs.declared.Front.{Front}
-use Rattle.line.specs.declared.Front.TheVariants as Front
-use Rattle.setup.specs.declared.Units.{Units}
 use Rattle.setup.specs.declared.Setup.{Setup}
 use Rattle.setup.specs.Setup.{slots}
 use Rattle.setup.specs.Bytes.{read_setup}
 use Rattle.shape.specs.Shape.{in_shape}
 use Rattle.ends.specs.declared.End.{End}
-use Rattle.ends.specs.declared.Sent.{Sent}
-use Rattle.ends.specs.declared.Stepped.{Stepped}
+use Rattle.ends.specs.Sends.{Sent}
+use Rattle.ends.specs.Ends.{Stepped}
 use Rattle.pairs.specs.Pairs.{end_at, start_of}
-use Rattle.words.specs.Words.{head_word, rest_word}
+use Rattle.words.specs.Words.{byte_in, units_in, head_word, rest_word}
 use Rattle.words.specs.Memory.{end_words, end_in}
-use Rattle.memory.specs.declared.Said.{Said}
+use Rattle.memory.specs.declared.hosts.Said.{Said}
 use Rattle.memory.specs.declared.hosts.Sending.{Sending}
 use Rattle.memory.specs.Said.{said, said_stepped, Keeps}
 
@@ -29,14 +27,8 @@ setup_words = 32
 abbrev pub units_place : ℕ
 units_place = 8
 
-abbrev pub units_in : ℕ → Units
-units_in w = record { header = w % 65536; payload = w / 65536 % 65536 }
-
-abbrev pub class_in : ℕ → ℕ
-class_in w = w % 256
-
 unfoldable pub setup_in : List ℕ → Setup
-setup_in x = record { n = get_or x 0 0 % 256; classes = map class_in (part x 1 7); units = map units_in (part x units_place slots) }
+setup_in x = record { n = get_or x 0 0 % 256; classes = map byte_in (part x 1 7); units = map units_in (part x units_place slots) }
 
 -- ---- the end, then its setup as the end sees it
 
@@ -75,9 +67,9 @@ Leaves t answer m w e = (t ≡ true → hosted_in w ≡ e) × (Keeps (eqb answer
 abbrev pub sending : ℕ → ℕ → ℕ → ℕ → Sending
 sending answer detail head rest = record { answer = answer; detail = detail; head = head; rest = rest }
 
-abbrev pub sending_by : Front → ℕ → ℕ → Sending
-sending_by (Front.Frame f) answer detail = sending answer detail (head_word f) (rest_word f)
-sending_by Front.Nothing answer detail = sending answer detail 0 0
+abbrev pub sending_by : Option Frame → ℕ → ℕ → Sending
+sending_by (Some f) answer detail = sending answer detail (head_word f) (rest_word f)
+sending_by None answer detail = sending answer detail 0 0
 
 -- 10 where the memory holds no end
 abbrev pub sent_in : List ℕ → Sent → Sending

@@ -1,15 +1,16 @@
 -- One step of a pair, without asking first for its shape: for whoever knows that the pair is in shape.
 -- Assumes nothing.
-use Rattle.std.specs.Prelude.{not, List, [], ◌∷◌, eqb, ltb, if◌then◌else◌}
+use Rattle.std.specs.Prelude.{Bool, true, false, not, List, [], ◌∷◌, eqb, ltb, if◌then◌else◌}
 use Rattle.setup.specs.declared.Setup.{Setup}
 use Rattle.script.specs.declared.Step.{Step}
 use Rattle.script.specs.Step.{formed}
 use Rattle.pairs.specs.declared.Pair.{Pair}
-use Rattle.pairs.specs.declared.Done.{Done}
+use Rattle.pairs.specs.Pairs.{Done}
 use Rattle.pairs.specs.Pairs.{done, end_at}
 use Rattle.ends.specs.declared.End.{End}
-use Rattle.ends.specs.declared.Stepped.{Stepped}
-use Rattle.ends.specs.Ends.{submit_of, take_at, timer_of, refresh_of}
+use Rattle.ends.specs.Ends.{Stepped}
+use Rattle.frames.specs.declared.Frame.{Frame}
+use Rattle.ends.specs.Ends.{submit_of, arrive_of, damage_of, take_at, timer_of, refresh_of}
 use Rattle.pairs.specs.Steps.{packet_of, act}
 
 -- 11: end not 0 or 1; 6: a step out of form; then the step itself
@@ -27,6 +28,12 @@ end_step e t =
     else if eqb t.step 6 then take_at e t.class t.kind
     else if eqb t.step 7 then timer_of e
     else refresh_of e
+
+-- ---- what a frame does at an end that it reaches, whole or damaged
+
+abbrev pub frame_step : Bool → End → Frame → Stepped
+frame_step true = arrive_of
+frame_step false = damage_of
 
 -- ---- the setups of the two ends, each as its end sees it
 

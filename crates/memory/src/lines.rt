@@ -40,10 +40,8 @@ pub fn leave(l: &mut [u64])
     ensures l_len { length l.new ≡ line_words }
 {
     let n = l[ON_IT] as usize;
-    if 1 <= n {
-        if n <= FRAMES {
-            crate::lists::move_down(l, 0, 2, 2 * n);
-            l[ON_IT] = (n - 1) as u64;
-        }
+    if 1 <= n && n <= FRAMES {
+        l.copy_within(2..2 * n, 0);
+        l[ON_IT] = (n - 1) as u64;
     }
 }

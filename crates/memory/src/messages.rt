@@ -1,18 +1,21 @@
 // What a link message does at the sending half of an end in lent words: Ack, Nak and update.
 // Assumes that the half's 263 words are lent.
-ghost use Rattle.std.specs.Prelude.{◌≡◌, eqb, length};
+ghost use Rattle.std.specs.Prelude.{◌≡◌, is_ok, length};
+ghost use Rattle.answers.specs.Answers.{answer_of};
 ghost use Rattle.hearing.specs.Hearing.{acknowledged, again, limited, answered, hears};
 ghost use Rattle.words.specs.Memory.{sender_words, sender_in};
 ghost use Rattle.memory.specs.Said.{Keeps};
 
 use crate::lists::LIST;
 use crate::sending::{ACKED_AT, BUFFER_AT, CREDITS_AT, OUT_AT, REPLAY_AT};
-use counters::{Counts, Seq};
+use answers::Refusal;
+use counters::{Counts, Seq, Wrapped};
+use credits::Credit;
 use frames::Message;
 use packets::Category;
 use sender::Replay;
 use setup::CHANNELS;
-use words::{credit_in, credit_word, seq_in};
+use words::Word;
 
 // All up to an accepted number are released; the replay count is set to 0.
 fn acknowledge(s: &mut [u64], number: Seq)
@@ -21,17 +24,14 @@ fn acknowledge(s: &mut [u64], number: Seq)
     ensures s_len { length s.new ≡ sender_words }
 {
     let running = crate::sending::replay(s);
-    let next = running.at;
-    let retrains = running.retrains;
-    let k = number.sub(seq_in(s[ACKED_AT])).0 as usize;
+    let k = number.sub(Seq::from_word(s[ACKED_AT])).0 as usize;
     crate::lists::release(&mut s[BUFFER_AT..BUFFER_AT + LIST], k);
-    let at = hearing::moved(k, s[OUT_AT] as usize, next);
     let r = Replay {
-        at,
+        at: hearing::moved(k, s[OUT_AT] as usize, running.at),
         count: 0,
-        retrains,
+        ..running
     };
-    s[ACKED_AT] = number.0 as u64;
+    s[ACKED_AT] = number.to_word();
     crate::sending::write_replay(&mut s[REPLAY_AT..REPLAY_AT + 4], r);
 }
 
@@ -46,50 +46,47 @@ fn again(s: &mut [u64])
     }
 }
 
-// An Ack or Nak; 24 where its number is not accepted.
-fn answer(s: &mut [u64], number: Seq, nak: bool) -> u8
+// An Ack or Nak; refused where its number is not accepted.
+fn answer(s: &mut [u64], number: Seq, nak: bool) -> Result<(), Refusal>
     requires { length s.old ≡ sender_words }
-    ensures value { (result ≡ (answered (sender_in s.old) number nak).answer) × (sender_in s.new ≡ (answered (sender_in s.old) number nak).sender) }
+    ensures value { (answer_of result ≡ (answered (sender_in s.old) number nak).answer) × (sender_in s.new ≡ (answered (sender_in s.old) number nak).sender) }
     ensures s_len { length s.new ≡ sender_words }
-    ensures keeps { Keeps (eqb result 0) s.old s.new }
+    ensures keeps { Keeps (is_ok result) s.old s.new }
 {
-    if seq_in(s[ACKED_AT]).ack_answer(s[OUT_AT] as usize, number) != 0 {
-        return 24;
-    }
+    Seq::from_word(s[ACKED_AT]).ack_answer(s[OUT_AT] as usize, number)?;
     acknowledge(s, number);
     if nak {
         again(s);
-        return 0;
     }
-    0
+    Ok(())
 }
 
-// An update replaces both limits of its channel and category; 25 where it is not accepted, as on a channel that there is not.
-fn limit(s: &mut [u64], channel: u8, c: Category, limits: Counts) -> u8
+// An update replaces both limits of its channel and category; refused where it is not accepted, as on a channel that there is not.
+#[tactic(auto, unfolding(hearing::specs::Hearing::limited))]
+fn limit(s: &mut [u64], channel: u8, c: Category, limits: Counts) -> Result<(), Refusal>
     requires { length s.old ≡ sender_words }
-    ensures value { (result ≡ (limited (sender_in s.old) channel c limits).answer) × (sender_in s.new ≡ (limited (sender_in s.old) channel c limits).sender) }
+    ensures value { (answer_of result ≡ (limited (sender_in s.old) channel c limits).answer) × (sender_in s.new ≡ (limited (sender_in s.old) channel c limits).sender) }
     ensures s_len { length s.new ≡ sender_words }
-    ensures keeps { Keeps (eqb result 0) s.old s.new }
+    ensures keeps { Keeps (is_ok result) s.old s.new }
 {
     let n = channel as usize;
     if n >= CHANNELS {
-        return 25;
+        return Err(Refusal::Update);
     }
     let k = CREDITS_AT + 3 * n + c.number() as usize;
-    let credit = credit_in(s[k]);
-    if credit.update_answer(limits) != 0 {
-        return 25;
-    }
-    s[k] = credit_word(credit.updated(limits));
-    0
+    let credit = Credit::from_word(s[k]);
+    credit.update_answer(limits)?;
+    s[k] = credit.updated(limits).to_word();
+    Ok(())
 }
 
 // What a link message that arrived whole does.
-pub fn hear(s: &mut [u64], m: Message) -> u8
+#[tactic(auto, unfolding(hearing::specs::Hearing::hears))]
+pub fn hear(s: &mut [u64], m: Message) -> Result<(), Refusal>
     requires { length s.old ≡ sender_words }
-    ensures value { (result ≡ (hears (sender_in s.old) m).answer) × (sender_in s.new ≡ (hears (sender_in s.old) m).sender) }
+    ensures value { (answer_of result ≡ (hears (sender_in s.old) m).answer) × (sender_in s.new ≡ (hears (sender_in s.old) m).sender) }
     ensures s_len { length s.new ≡ sender_words }
-    ensures keeps { Keeps (eqb result 0) s.old s.new }
+    ensures keeps { Keeps (is_ok result) s.old s.new }
 {
     match m {
         Message::Ack(number) => answer(s, number, false),

@@ -1,108 +1,117 @@
 // The steps of one end in lent words, but Send.
 // Assumes that its 474 words are lent: the sending half, then the receiving half. The setup is as the end sees it.
-ghost use Rattle.std.specs.Prelude.{◌≡◌, eqb, length};
+ghost use Rattle.std.specs.Prelude.{◌≡◌, is_ok, length};
+ghost use Rattle.answers.specs.Answers.{answer_of};
 ghost use Rattle.setup.specs.declared.Setup.{Setup};
 ghost use Rattle.ends.specs.Ends.{submit_answer, submit_of, arrive_of, damage_of, take_at, timer_of, refresh_of};
 ghost use Rattle.words.specs.Words.{frame_in};
 ghost use Rattle.words.specs.Memory.{end_words, end_in};
-ghost use Rattle.memory.specs.Said.{said_stepped, Keeps};
+ghost use Rattle.memory.specs.Said.{said, said_of, said_stepped, Keeps};
+ghost use Rattle.memory.specs.Unasked.{frame_step};
 
 use crate::receiving::RECEIVER;
 use crate::sending::SENDER;
-use crate::{Said, bare};
+use answers::Refusal;
+use ends::QUEUE;
 use frames::Frame;
 use packets::Packet;
 use setup::Setup;
-use words::{frame_in, packet_word};
+use words::{Word, frame_in};
 
-// 12 to 16, or 0.
-fn submit_answer(m: &[u64], link: Setup, p: Packet) -> u8
+// Refused by a packet rule, then for too many data units, then for a full queue.
+#[tactic(auto, using(answers::proofs::Outcomes::no_refusal_is_0), unfolding(ends::specs::Ends::submit_answer, words::specs::Memory::end_in, packets::specs::Packets::need_of))]
+fn submit_answer(m: &[u64], link: Setup, p: Packet) -> Result<(), Refusal>
     requires { length m.now ≡ end_words }
-    ensures { result ≡ submit_answer (end_in link m.now) p }
+    ensures { answer_of result ≡ submit_answer (end_in link m.now) p }
 {
-    let form = p.answer();
-    if form != 0 {
-        return form;
-    }
+    p.answer()?;
     let c = p.category();
     let channel = link.channel_of(p.class);
     let units = link.units_at(1, channel, c.number() as usize);
-    let need = p.need();
-    if units.payload < need.d.0 {
-        return 15;
+    if units.payload < p.need().d.0 {
+        return Err(Refusal::TooManyUnits);
     }
-    if 8 <= crate::sending::waiting(&m[0..SENDER], channel, c) {
-        return 16;
+    if QUEUE <= crate::sending::waiting(&m[0..SENDER], channel, c) {
+        return Err(Refusal::QueueFull);
     }
-    0
+    Ok(())
 }
 
 // A packet joins its channel's send queue.
-pub fn submit(m: &mut [u64], link: Setup, p: Packet) -> u8
+#[tactic(auto, using(answers::proofs::Outcomes::no_refusal_is_0), unfolding(ends::specs::Ends::submit_of))]
+pub fn submit(m: &mut [u64], link: Setup, p: Packet) -> Result<(), Refusal>
     requires { length m.old ≡ end_words }
-    ensures value { (result ≡ (submit_of (end_in link m.old) p).answer) × (end_in link m.new ≡ (submit_of (end_in link m.old) p).end) }
+    ensures value { (answer_of result ≡ (submit_of (end_in link m.old) p).answer) × (end_in link m.new ≡ (submit_of (end_in link m.old) p).end) }
     ensures m_len { length m.new ≡ end_words }
-    ensures keeps { Keeps (eqb result 0) m.old m.new }
+    ensures keeps { Keeps (is_ok result) m.old m.new }
 {
-    let answer = submit_answer(m, link, p);
-    if answer != 0 {
-        return answer;
-    }
+    submit_answer(m, link, p)?;
     let channel = link.channel_of(p.class);
-    let w = packet_word(p);
-    crate::sending::submit(&mut m[0..SENDER], channel, w);
-    0
+    crate::sending::submit(&mut m[0..SENDER], channel, p.to_word());
+    Ok(())
 }
 
-// The frame of these two words arrives whole: 27, then 24, 25 or 26.
-pub fn arrive(m: &mut [u64], link: Setup, head: u64, rest: u64) -> Said
+// The frame of these two words arrives whole.
+pub fn arrive(m: &mut [u64], link: Setup, head: u64, rest: u64) -> Result<u32, Refusal>
     requires { length m.old ≡ end_words }
-    ensures value { (result ≡ said_stepped (arrive_of (end_in link m.old) (frame_in head rest))) × (end_in link m.new ≡ (arrive_of (end_in link m.old) (frame_in head rest)).end) }
+    ensures value { (said_of result ≡ said_stepped (arrive_of (end_in link m.old) (frame_in head rest))) × (end_in link m.new ≡ (arrive_of (end_in link m.old) (frame_in head rest)).end) }
     ensures m_len { length m.new ≡ end_words }
-    ensures keeps { Keeps (eqb result.answer 0) m.old m.new }
+    ensures keeps { Keeps (is_ok result) m.old m.new }
 {
     let f = frame_in(head, rest);
-    if f.answer(link.n) != 0 {
-        return bare(27);
-    }
+    f.answer(link.n)?;
     match f {
         Frame::Packet(number, p) => {
             let channel = link.channel_of(p.class);
             crate::receiving::arrive(&mut m[SENDER..SENDER + RECEIVER], channel, number, rest)
         }
-        Frame::Message(x) => bare(crate::messages::hear(&mut m[0..SENDER], x)),
+        Frame::Message(x) => {
+            crate::messages::hear(&mut m[0..SENDER], x)?;
+            Ok(0)
+        }
     }
 }
 
 // The frame of these two words arrives damaged. This step and the next ones hold of every setup, or of every one with n channels.
-pub fn damage(m: &mut [u64], head: u64, rest: u64) -> Said
+pub fn damage(m: &mut [u64], head: u64, rest: u64) -> u32
     requires { length m.old ≡ end_words }
-    ensures value { (link : Setup) → (result ≡ said_stepped (damage_of (end_in link m.old) (frame_in head rest))) × (end_in link m.new ≡ (damage_of (end_in link m.old) (frame_in head rest)).end) }
+    ensures value { (link : Setup) → (said 0 result ≡ said_stepped (damage_of (end_in link m.old) (frame_in head rest))) × (end_in link m.new ≡ (damage_of (end_in link m.old) (frame_in head rest)).end) }
     ensures m_len { length m.new ≡ end_words }
 {
     if let Frame::Packet(_, _) = frame_in(head, rest) {
         crate::receiving::damage(&mut m[SENDER..SENDER + RECEIVER]);
     }
-    Said {
-        answer: 0,
-        detail: 4,
+    4
+}
+
+// That frame reaches the end, whole or damaged.
+pub fn reach(m: &mut [u64], link: Setup, head: u64, rest: u64, whole: bool) -> Result<u32, Refusal>
+    requires { length m.old ≡ end_words }
+    ensures value { (said_of result ≡ said_stepped (frame_step whole (end_in link m.old) (frame_in head rest))) × (end_in link m.new ≡ (frame_step whole (end_in link m.old) (frame_in head rest)).end) }
+    ensures m_len { length m.new ≡ end_words }
+    ensures keeps { Keeps (is_ok result) m.old m.new }
+{
+    if whole {
+        arrive(m, link, head, rest)
+    } else {
+        Ok(damage(m, head, rest))
     }
 }
 
-pub fn take(m: &mut [u64], n: u8, channel: u8, category: u8) -> Said
+pub fn take(m: &mut [u64], n: u8, channel: u8, category: u8) -> Result<u32, Refusal>
     requires { length m.old ≡ end_words }
-    ensures value { (link : Setup) → n ≡ link.n → (result ≡ said_stepped (take_at (end_in link m.old) channel category)) × (end_in link m.new ≡ (take_at (end_in link m.old) channel category).end) }
+    ensures value { (link : Setup) → n ≡ link.n → (said_of result ≡ said_stepped (take_at (end_in link m.old) channel category)) × (end_in link m.new ≡ (take_at (end_in link m.old) channel category).end) }
     ensures m_len { length m.new ≡ end_words }
-    ensures keeps { Keeps (eqb result.answer 0) m.old m.new }
+    ensures keeps { Keeps (is_ok result) m.old m.new }
 {
     crate::receiving::take(&mut m[SENDER..SENDER + RECEIVER], n, channel, category)
 }
 
-pub fn timer(m: &mut [u64]) -> u8
+pub fn timer(m: &mut [u64]) -> Result<(), Refusal>
     requires { length m.old ≡ end_words }
-    ensures value { (link : Setup) → (result ≡ (timer_of (end_in link m.old)).answer) × (end_in link m.new ≡ (timer_of (end_in link m.old)).end) }
+    ensures value { (link : Setup) → (answer_of result ≡ (timer_of (end_in link m.old)).answer) × (end_in link m.new ≡ (timer_of (end_in link m.old)).end) }
     ensures m_len { length m.new ≡ end_words }
-    ensures keeps { Keeps (eqb result 0) m.old m.new }
+    ensures keeps { Keeps (is_ok result) m.old m.new }
 {
     crate::sending::timer(&mut m[0..SENDER])
 }

@@ -1,6 +1,7 @@
 // The sending half of an end in lent words: its queues, credits, replay buffer and running replay.
 // Assumes that its 263 words are lent: four lists, the replay buffer, twelve credits, the two numbers, the replay.
-ghost use Rattle.std.specs.Prelude.{◌≡◌, ◌<◌, eqb, length, get_or};
+ghost use Rattle.std.specs.Prelude.{◌≡◌, ◌<◌, is_ok, length, get_or};
+ghost use Rattle.answers.specs.Answers.{answer_of};
 ghost use Rattle.counters.specs.Counters.{next_of, after_of};
 ghost use Rattle.setup.specs.Setup.{channels};
 ghost use Rattle.store.specs.Store.{held, at, of_category};
@@ -13,12 +14,13 @@ ghost use Rattle.credits.specs.Credits.{spent};
 ghost use Rattle.memory.specs.Said.{Keeps};
 
 use crate::lists::LIST;
-use basics::Found;
+use answers::Refusal;
 use counters::{Retrain, Seq};
-use packets::Category;
-use sender::{BUFFER, New, Replay};
+use credits::Credit;
+use packets::{Category, Packet};
+use sender::{BUFFER, Replay};
 use setup::CHANNELS;
-use words::{credit_in, credit_word, packet_in, seq_in};
+use words::Word;
 
 // Where the parts stand. The queues are first.
 pub const BUFFER_AT: usize = 196;
@@ -64,34 +66,34 @@ fn replay_in(x: &[u64]) -> Replay
     requires { length x.now ≡ 4 }
     ensures { result ≡ replay_in x.now }
 {
-    let count = (x[2] % 256) as u8;
+    let count = u8::from_word(x[2]);
     let retrains = Retrain((x[3] % 65536) as u16);
     if x[0] == 0 {
         return Replay {
-            at: Found::Nothing,
+            at: None,
             count,
             retrains,
         };
     }
     Replay {
-        at: Found::At(x[1] as usize),
+        at: Some(x[1] as usize),
         count,
         retrains,
     }
 }
 
 // Where a replay goes on, as its first two words.
-fn write_place(x: &mut [u64], at: Found)
+fn write_place(x: &mut [u64], at: Option<usize>)
     requires { length x.old ≡ 2 }
     ensures x_after { found_in (get_or x.new 0 0) (get_or x.new 1 0) ≡ at }
     ensures x_len { length x.new ≡ 2 }
 {
     match at {
-        Found::At(i) => {
+        Some(i) => {
             x[0] = 1;
             x[1] = i as u64;
         }
-        Found::Nothing => {
+        None => {
             x[0] = 0;
             x[1] = 0;
         }
@@ -103,10 +105,9 @@ pub fn write_replay(x: &mut [u64], r: Replay)
     ensures x_after { replay_in x.new ≡ r }
     ensures x_len { length x.new ≡ 4 }
 {
-    let at = r.at;
-    write_place(&mut x[0..2], at);
-    x[2] = r.count as u64;
-    x[3] = r.retrains.0 as u64;
+    write_place(&mut x[0..2], r.at);
+    x[2] = r.count.to_word();
+    x[3] = u64::from(r.retrains.0);
 }
 
 pub fn replay(s: &[u64]) -> Replay
@@ -126,18 +127,18 @@ pub fn begin(s: &mut [u64])
     write_replay(&mut s[REPLAY_AT..REPLAY_AT + 4], r);
 }
 
-// Timer: a replay starts; 23 where nothing is unacknowledged.
-pub fn timer(s: &mut [u64]) -> u8
+// Timer: a replay starts; refused where nothing is unacknowledged.
+pub fn timer(s: &mut [u64]) -> Result<(), Refusal>
     requires { length s.old ≡ sender_words }
-    ensures value { (result ≡ (timer_of (sender_in s.old)).answer) × (sender_in s.new ≡ (timer_of (sender_in s.old)).sender) }
+    ensures value { (answer_of result ≡ (timer_of (sender_in s.old)).answer) × (sender_in s.new ≡ (timer_of (sender_in s.old)).sender) }
     ensures s_len { length s.new ≡ sender_words }
-    ensures keeps { Keeps (eqb result 0) s.old s.new }
+    ensures keeps { Keeps (is_ok result) s.old s.new }
 {
     if s[OUT_AT] == 0 {
-        return 23;
+        return Err(Refusal::NothingOut);
     }
     begin(s);
-    0
+    Ok(())
 }
 
 // The number of the packet at a place of the replay buffer.
@@ -145,7 +146,7 @@ pub fn replay_number(s: &[u64], i: usize) -> Seq
     requires { length s.now ≡ sender_words }
     ensures { result ≡ after_of (next_of (sender_in s.now).acked) i }
 {
-    seq_in(s[ACKED_AT]).next().after(i)
+    Seq::from_word(s[ACKED_AT]).next().after(i)
 }
 
 // The word of the packet at a place of the replay buffer.
@@ -162,19 +163,15 @@ pub fn replayed(s: &mut [u64], i: usize)
     ensures s_after { sender_in s.new ≡ replayed (sender_in s.old) i }
     ensures s_len { length s.new ≡ sender_words }
 {
-    let running = replay(s);
-    let at = sender::place_after(i, s[OUT_AT] as usize);
-    let retrains = running.retrains;
     let r = Replay {
-        at,
-        count: running.count,
-        retrains,
+        at: sender::place_after(i, s[OUT_AT] as usize),
+        ..replay(s)
     };
     write_replay(&mut s[REPLAY_AT..REPLAY_AT + 4], r);
 }
 
 // The place of a channel's oldest eligible packet.
-fn chosen_in(s: &[u64], channel: usize) -> Found
+fn chosen_in(s: &[u64], channel: usize) -> Option<usize>
     requires { (length s.now ≡ sender_words) × (channel < channels) }
     ensures { result ≡ chosen_in (sender_in s.now) channel }
 {
@@ -184,21 +181,19 @@ fn chosen_in(s: &[u64], channel: usize) -> Found
 }
 
 // The new packet to send: from the highest channel that has an eligible one, if the replay buffer has room.
-pub fn new_packet(s: &[u64]) -> New
+pub fn new_packet(s: &[u64]) -> Option<(usize, usize)>
     requires { length s.now ≡ sender_words }
     ensures { result ≡ new_of (sender_in s.now) }
 {
     if s[OUT_AT] as usize >= BUFFER {
-        return New::Nothing;
+        return None;
     }
-    let mut c = CHANNELS;
-    while 0 < c {
-        c -= 1;
-        if let Found::At(place) = chosen_in(s, c) {
-            return New::At { channel: c, place };
+    for c in (0..CHANNELS).rev() {
+        if let Some(place) = chosen_in(s, c) {
+            return Some((c, place));
         }
     }
-    New::Nothing
+    None
 }
 
 // The word of the packet at a place of a channel's queue.
@@ -216,10 +211,9 @@ fn spend(s: &mut [u64], channel: usize, w: u64)
     ensures s_after { sender_in s.new ≡ with_credit (sender_in s.old) (slot_of channel (category_of (packet_in w))) (spent (credit_at (sender_in s.old) (slot_of channel (category_of (packet_in w)))) (need_of (packet_in w))) }
     ensures s_len { length s.new ≡ sender_words }
 {
-    let p = packet_in(w);
+    let p = Packet::from_word(w);
     let k = CREDITS_AT + 3 * channel + p.category().number() as usize;
-    let credit = credit_in(s[k]).spend(p.need());
-    s[k] = credit_word(credit);
+    s[k] = Credit::from_word(s[k]).spend(p.need()).to_word();
 }
 
 // A new packet leaves its queue: it adds to consumed and enters the replay buffer.
@@ -233,5 +227,5 @@ pub fn sent_new(s: &mut [u64], channel: usize, place: usize)
     crate::lists::remove(&mut s[at..at + LIST], place);
     spend(s, channel, w);
     crate::lists::push(&mut s[BUFFER_AT..BUFFER_AT + LIST], w);
-    s[NEXT_AT] = seq_in(s[NEXT_AT]).next().0 as u64;
+    s[NEXT_AT] = Seq::from_word(s[NEXT_AT]).next().to_word();
 }

@@ -1,6 +1,6 @@
 -- A run of one step more.
 -- Assumes nothing.
-use Rattle.std.proofs.Common.{◌≡◌, ℕ, ◌+◌, ◌*◌, List, [], ◌∷◌, ◌++◌, refl, ◌∙◌}
+use Rattle.std.proofs.Common.{◌≡◌, ℕ, ◌+◌, ◌*◌, List, [], ◌∷◌, ◌++◌, refl}
 use Rattle.basics.specs.Parts.{part}
 use Rattle.basics.proofs.Parts.{read_more}
 use Rattle.script.specs.declared.Step.{Step}

@@ -1,37 +1,42 @@
 -- A run whose pair is kept in memory: the pair there has arrays of the right lengths, stays in shape, and so is stepped without asking for it.
 -- Assumes nothing.
-use Rattle.std.proofs.Common.{◌≡◌, ℕ, zero, suc, ◌+◌, ◌*◌, ◌<◌, ◌≤◌, Bool, true, ◌&&◌, eqb, List, [], ◌∷◌, map, length, get_or, take, sym, refl, ◌∙◌, arith, length-take, eq-eqb, eqb-true, if◌then◌else◌}
+use Rattle.std.specs.Prelude.{Result, Ok, Err, is_ok}
+use Rattle.std.specs.Result.{result_unwrap_or}
+use Rattle.std.proofs.Common.{◌≡◌, ap, ℕ, ◌+◌, ◌*◌, ◌<◌, ◌≤◌, true, eqb, List, [], length, get_or, sym, refl, ◌∙◌, arith, length-take, eq-eqb, eqb-true, if◌then◌else◌}
 use lib.ListN.{length-map, get_or-eq_default}
-use Rattle.basics.specs.Parts.{part, cut}
+use Rattle.basics.specs.Parts.{part}
 use Rattle.basics.proofs.Each.{by_order_lem}
 use Rattle.basics.proofs.Branches.{and_left, and_right}
 use Rattle.basics.proofs.Parts.{length_cut}
 use Rattle.setup.specs.declared.Setup.{Setup}
-use Rattle.setup.specs.Setup.{channels, per_end, blank_setup}
+use Rattle.setup.specs.Setup.{channels, per_end}
 use Rattle.script.specs.declared.Step.{Step}
 use Rattle.store.specs.Store.{capacity, empty}
 use Rattle.line.specs.Line as L
-use Rattle.sender.specs.Sender.{queue_at}
 use Rattle.sender.proofs.Arrays as Sending
-use Rattle.receiver.specs.Receiver.{inbox_at}
 use Rattle.receipts.proofs.Arrays as Receiving
+use Rattle.answers.specs.declared.Refusal.{Refusal}
+use Rattle.answers.specs.Answers.{answer_of}
+use Rattle.answers.proofs.Outcomes.{accepts}
 use Rattle.pairs.specs.declared.Pair.{Pair}
+use Rattle.pairs.specs.Pairs.{Done}
 use Rattle.pairs.specs.Pairs.{end_at, line_at}
 use Rattle.pairs.specs.Steps.{pair_in_shape, step_of}
 use Rattle.lasting.proofs.Pairs.{Sound, shape_sound, steps_as, step_lasts}
-use Rattle.words.specs.Memory.{places, list_words, sender_words, receiver_words, end_words, line_words, lines_at, pair_words, buffer_at, credits_at, rooms_at, packets_in, lists_in, sender_in, receiver_in, line_in, end_in, pair_in}
+use Rattle.words.specs.Memory.{list_words, sender_words, receiver_words, end_words, pair_words, buffer_at, credits_at, rooms_at, packets_in, lists_in, sender_in, receiver_in, line_in, end_in, pair_in}
 use Rattle.words.proofs.Patched.{length_part}
 use Rattle.words.proofs.Lists.{list-is}
 use Rattle.words.proofs.Whole.{end_is, line-is}
 use Rattle.runs.specs.declared.Run.{Run}
-use Rattle.runs.specs.declared.Advanced.{Advanced}
 use Rattle.runs.specs.Runs.{run, advance_of, run_of, answers_of, filled, noted}
 use Rattle.runs.proofs.Listed.{turn}
 use Rattle.script.specs.Script.{steps_in}
 use Rattle.script.specs.Step as Steps
+use Rattle.memory.specs.declared.hosts.Said.{Said}
+use Rattle.memory.specs.Said.{said_of, said_done}
 use Rattle.memory.specs.Unasked.{setups_of, unasked}
 use Rattle.runs.specs.declared.Counted.{Counted}
-use Rattle.runs.specs.Kept.{will_last, counted_after, run_in}
+use Rattle.runs.specs.Kept.{will_last, counted_after, counted, run_in}
 
 -- ---- lengths
 
@@ -113,29 +118,34 @@ module _ (p : Pair) (t : Step) (c : Counted) (s : Sound p) where
   pub kept_lasts : Sound (unasked p t).pair
   kept_lasts = rw kept_step at (step_lasts t s)
 
+-- what a step says: its answer, and 0 or its detail
+told_apart : (o : Result ℕ Refusal) (d : Done) → said_of o ≡ said_done d → (answer_of o ≡ d.answer) × (result_unwrap_or o 0 ≡ d.detail)
+told_apart (Ok detail) d e = (ap (λ (x : Said). x.answer) e, ap (λ (x : Said). x.detail) e)
+told_apart (Err refusal) d e = (ap (λ (x : Said). x.answer) e, ap (λ (x : Said). x.detail) e)
+
 -- a step of the run, as it is counted and told
-module _ (links : List Setup) (m new : List ℕ) (c : Counted) (t : Step) (answer detail : ℕ) (s : Sound (pair_in links m))
-    (ea : answer ≡ (unasked (pair_in links m) t).answer) (ed : detail ≡ (unasked (pair_in links m) t).detail) (ep : pair_in links new ≡ (unasked (pair_in links m) t).pair) where
-  kept_answer : (advance_of (run_in links m c) t).answer ≡ answer
+module _ (links : List Setup) (m new : List ℕ) (c : Counted) (t : Step) (o : Result ℕ Refusal) (s : Sound (pair_in links m))
+    (eo : said_of o ≡ said_done (unasked (pair_in links m) t)) (ep : pair_in links new ≡ (unasked (pair_in links m) t).pair) where
+  kept_answer : (advance_of (run_in links m c) t).answer ≡ answer_of o
   unfolding advance_of
-  kept_answer = rw (kept_step (pair_in links m) t c s, ea)
+  kept_answer = rw (kept_step (pair_in links m) t c s) (sym (told_apart o (unasked (pair_in links m) t) eo).0)
 
-  kept_detail : (advance_of (run_in links m c) t).detail ≡ detail
+  kept_detail : (advance_of (run_in links m c) t).detail ≡ result_unwrap_or o 0
   unfolding advance_of
-  kept_detail = rw (kept_step (pair_in links m) t c s, ed)
+  kept_detail = rw (kept_step (pair_in links m) t c s) (sym (told_apart o (unasked (pair_in links m) t) eo).1)
 
-  kept_run : (advance_of (run_in links m c) t).run ≡ run_in links new (counted_after c t answer)
+  kept_run : (advance_of (run_in links m c) t).run ≡ run_in links new (counted_after c t (is_ok o))
   unfolding advance_of counted_after
-  kept_run = rw (kept_step (pair_in links m) t c s, ea, ep)
+  kept_run = rw (kept_step (pair_in links m) t c s, ep, accepts o, (told_apart o (unasked (pair_in links m) t) eo).0)
 
   -- a turn of the loop
   pub kept_turn : (r : Run) (l old out : List ℕ) (i : ℕ) → run_in links m c ≡ run_of r (steps_in l i) → out ≡ filled old (answers_of r (steps_in l i)) → t ≡ Steps.step_of (part l (6 * i) 6)
-      → (length (noted out i answer detail) ≡ length old)
-      × (run_in links new (counted_after c t answer) ≡ run_of r (steps_in l (i + 1)))
-      × (noted out i answer detail ≡ filled old (answers_of r (steps_in l (i + 1))))
+      → (length (noted out i (answer_of o) (result_unwrap_or o 0)) ≡ length old)
+      × (run_in links new (counted_after c t (is_ok o)) ≡ run_of r (steps_in l (i + 1)))
+      × (noted out i (answer_of o) (result_unwrap_or o 0) ≡ filled old (answers_of r (steps_in l (i + 1))))
       × Sound (pair_in links new)
-  kept_turn r l old out i ex eo et =
-      let next = turn r l old out i (run_in links m c) t (advance_of (run_in links m c) t) ex eo et refl in
+  kept_turn r l old out i ex eout et =
+      let next = turn r l old out i (run_in links m c) t (advance_of (run_in links m c) t) ex eout et refl in
       (rw (kept_answer, kept_detail) at next.0, sym kept_run ∙ next.1, rw (kept_answer, kept_detail) at next.2, rw (sym ep) at (kept_lasts (pair_in links m) t c s))
 
 -- ---- the pair is written into the memory, run there, and read back
@@ -150,10 +160,10 @@ module _ (p q : Pair) (links : List Setup) (m w : List ℕ) (whole : length m �
 
 module _ (links : List Setup) (w new : List ℕ) (r : Run) (x : Counted) (steps : List Step) (st : pair_in links w ≡ r.pair) where
   pub run-back : (q back : Pair) → length new ≡ pair_words → back ≡ (if eqb (length new) pair_words then pair_in links new else q)
-      → run_in links new x ≡ run_of (run_in links w (record { accepted = r.accepted; taken = r.taken })) steps
+      → run_in links new x ≡ run_of (run_in links w (counted r.accepted r.taken)) steps
       → run back x.accepted x.taken ≡ run_of r steps
   run-back q back long eb er = rw (eb, eq-eqb (length new) pair_words long, er, st)
 
-  pub answers_back : (out old : List ℕ) → out ≡ filled old (answers_of (run_in links w (record { accepted = r.accepted; taken = r.taken })) steps)
+  pub answers_back : (out old : List ℕ) → out ≡ filled old (answers_of (run_in links w (counted r.accepted r.taken)) steps)
       → out ≡ filled old (answers_of r steps)
   answers_back out old eo = rw st at eo

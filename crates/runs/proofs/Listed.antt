@@ -8,10 +8,15 @@ use Rattle.basics.proofs.Parts as parts
 use Rattle.script.specs.declared.Step.{Step}
 use Rattle.script.specs.Step.{step_of}
 use Rattle.script.specs.Script.{steps_in}
-use Rattle.runs.specs.declared.Advanced.{Advanced}
 use Rattle.runs.specs.declared.Run.{Run}
-use Rattle.runs.specs.Runs.{advance_of, answers_of, filled, noted, run_of}
+use Rattle.runs.specs.Runs.{Advanced}
+use Rattle.runs.specs.Runs.{step_from, advance_of, answers_of, filled, noted, run_of}
 use Rattle.runs.proofs.Folds.{run-next}
+
+-- a step that is there
+pub step_there : (l : List ℕ) (i : ℕ) → i < length l / 6 → step_from l i ≡ step_of (part l (6 * i) 6)
+unfolding step_from
+step_there l i h = simp (step_from, lt-ltb _ _ h)
 
 -- ---- one step more
 

@@ -16,10 +16,14 @@ use Rattle.runs.specs.Runs.{run, grown}
 unfoldable pub will_last : Pair → Bool
 will_last p = pair_in_shape p && (end_at p 0).setup.n == (end_at p 1).setup.n
 
-unfoldable pub counted_after : Counted → Step → ℕ → Counted
-counted_after c t answer = record {
-  accepted = grown c.accepted t.end (is_submit t.step && answer == 0);
-  taken = grown c.taken t.end (is_take t.step && answer == 0);
+abbrev pub counted : List ℕ → List ℕ → Counted
+counted accepted taken = record { accepted = accepted; taken = taken }
+
+-- after a step that was made or refused
+unfoldable pub counted_after : Counted → Step → Bool → Counted
+counted_after c t made = record {
+  accepted = grown c.accepted t.end (is_submit t.step && made);
+  taken = grown c.taken t.end (is_take t.step && made);
 }
 
 -- the pair in this memory, with these counts

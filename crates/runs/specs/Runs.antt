@@ -1,14 +1,16 @@
 -- A run of steps over a pair, in order, with the packets accepted and taken at each end.
 -- Assumes nothing.
-use Rattle.std.specs.Prelude.{ℕ, ◌+◌, ◌*◌, ◌/◌, Bool, not, ◌&&◌, List, [], ◌∷◌, ◌++◌, length, take, drop, ◌==◌, nat_lt, slice_index, slice_set, if◌then◌else◌}
+use Rattle.std.specs.Prelude.{ℕ, ◌+◌, ◌*◌, ◌/◌, Bool, not, ◌&&◌, List, [], ◌∷◌, ◌++◌, length, take, drop, ◌==◌, nat_lt, slice_index, slice_set, if◌then◌else◌, Result, Ok, Err}
 use Rattle.basics.specs.Parts.{part}
 use Rattle.counters.specs.Wrapped.{plus}
 use Rattle.script.specs.declared.Step.{Step}
 use Rattle.script.specs.Step.{is_submit, is_take, step_of}
 use Rattle.pairs.specs.declared.Pair.{Pair}
 use Rattle.pairs.specs.Steps as Pairs
+use Rattle.answers.specs.declared.Refusal.{Refusal}
+use Rattle.answers.specs.declared.After.{After}
+use Rattle.answers.specs.Answers.{number_of}
 use Rattle.runs.specs.declared.Run.{Run}
-use Rattle.runs.specs.declared.Advanced.{Advanced}
 
 -- step i of a list of numbers, six for each; a step out of form where the list ends before it
 unfoldable pub step_from : List ℕ → ℕ → Step
@@ -28,6 +30,17 @@ grown counts end one =
     if not one then counts
     else if nat_lt end 2 then slice_set counts end (plus 4294967296 (slice_index counts end) 1)
     else counts
+
+-- the run after a step, with the step's answer and detail
+pub record Advanced : Type 0 where
+  pub run : Run
+  pub answer : ℕ
+  pub detail : ℕ
+
+-- a refusal leaves it as it was, with detail 0
+abbrev pub advanced_of : Run → Result (After Run) Refusal → Advanced
+advanced_of r (Ok x) = record { run = x.state; answer = 0; detail = x.detail }
+advanced_of r (Err refusal) = record { run = r; answer = number_of refusal; detail = 0 }
 
 -- packets accepted by Submit there and packets taken there: those steps that answered 0
 unfoldable pub advance_of : Run → Step → Advanced

@@ -6,13 +6,13 @@ ghost use Rattle.std.specs.Prelude.{◌≡◌, ◌/◌, true, length};
 ghost use Rattle.words.specs.Memory.{pair_words, pair_in};
 ghost use Rattle.script.specs.Step.{step_of};
 ghost use Rattle.script.specs.Script.{steps_in};
-ghost use Rattle.runs.specs.Kept.{counted_after, will_last, run_in};
-ghost use Rattle.runs.specs.Runs.{step_from, start_of, grown, advance_of, run_of, answers_of, filled, noted};
+ghost use Rattle.runs.specs.Kept.{counted, counted_after, will_last, run_in};
+ghost use Rattle.runs.specs.Runs.{step_from, start_of, grown, advanced_of, advance_of, run_of, answers_of, filled, noted};
 
-use basics::both;
+use answers::{After, Refusal};
 use memory::WORDS;
 use pairs::Pair;
-use script::Step;
+use script::{Action, Step};
 use setup::Setup;
 
 // By end: packets accepted by Submit there, packets taken there.
@@ -23,30 +23,20 @@ pub struct Run {
     pub taken: [u32; 2],
 }
 
-// The run after a step, with the step's answer and detail.
-#[derive(Clone, Copy)]
-pub struct Advanced {
-    pub run: Run,
-    pub answer: u8,
-    pub detail: u32,
-}
-
 // One more at this end, if it counts.
-fn grown(counts: [u32; 2], end: u32, one: bool) -> [u32; 2]
+#[tactic(auto, unfolding(crate::specs::Runs::grown, counters::specs::Wrapped::plus))]
+fn grown(mut counts: [u32; 2], end: u32, one: bool) -> [u32; 2]
     ensures { result ≡ grown counts end one }
 {
-    if !one {
-        return counts;
-    }
     let i = end as usize;
-    if i < 2 {
-        let mut r = counts;
-        r[i] = std::num::wrapping_add_u32(counts[i], 1);
-        return r;
+    if one && i < counts.len() {
+        counts[i] = counts[i].wrapping_add(1);
     }
     counts
 }
 
+// A step of its six numbers. The same stands in `script`, which keeps it to itself.
+#[tactic(auto, unfolding(script::specs::Step::step_of))]
 fn step_in(l: &[u32]) -> Step
     requires { length l.now ≡ 6 }
     ensures { result ≡ step_of l.now }
@@ -62,6 +52,7 @@ fn step_in(l: &[u32]) -> Step
 }
 
 // Step i of a list of numbers, six for each; a step out of form where the list ends before it.
+#[tactic(auto, unfolding(crate::specs::Runs::step_from))]
 pub fn step_from(l: &[u32], i: usize) -> Step
     ensures { result ≡ step_from l.now i }
 {
@@ -81,6 +72,7 @@ pub fn step_from(l: &[u32], i: usize) -> Step
 
 impl Run {
     // Nothing is accepted or taken yet.
+    #[tactic(auto, unfolding(crate::specs::Runs::start_of))]
     pub fn start(pair: Pair) -> Run
         ensures { result ≡ start_of pair }
     {
@@ -91,35 +83,42 @@ impl Run {
         }
     }
 
-    // One step more.
-    pub fn advance(self, t: Step) -> Advanced
-        ensures { result ≡ advance_of self t }
+    fn counted(self) -> Counted
+        ensures { result ≡ counted self.accepted self.taken }
     {
-        let d = self.pair.step(t);
-        let pair = d.pair;
-        let had_accepted = self.accepted;
-        let accepted = grown(had_accepted, t.end, both(t.step == 1, d.answer == 0));
-        let had_taken = self.taken;
-        let taken = grown(had_taken, t.end, both(t.step == 6, d.answer == 0));
-        let run = Run {
-            pair,
+        let Run {
             accepted,
             taken,
-        };
-        Advanced {
-            run,
-            answer: d.answer,
-            detail: d.detail,
-        }
+            ..
+        } = self;
+        Counted { accepted, taken }
+    }
+
+    // One step more. A step that is refused leaves the run as it was.
+    #[tactic(auto, using(answers::proofs::Outcomes::no_refusal_is_0), unfolding(crate::specs::Runs::advance_of, crate::specs::Runs::grown, crate::specs::Kept::counted_after))]
+    pub fn advance(self, t: Step) -> Result<After<Run>, Refusal>
+        ensures { advanced_of self result ≡ advance_of self t }
+    {
+        let after = self.pair.step(t)?;
+        let Counted { accepted, taken } = self.counted().after(t, true);
+        Ok(After {
+            state: Run {
+                pair: after.state,
+                accepted,
+                taken,
+            },
+            detail: after.detail,
+        })
     }
 }
 
 // Writes answer and detail of step i, where the list has room for both.
+#[tactic(auto, unfolding(crate::specs::Runs::noted))]
 fn note(out: &mut [u32], i: usize, answer: u8, detail: u32)
     ensures { out.new ≡ noted out.old i answer detail }
 {
     if i < out.len() / 2 {
-        out[2 * i] = answer as u32;
+        out[2 * i] = u32::from(answer);
         out[2 * i + 1] = detail;
     }
 }
@@ -128,16 +127,15 @@ fn note(out: &mut [u32], i: usize, answer: u8, detail: u32)
 fn run_asked(r: Run, l: &[u32], out: &mut [u32]) -> Run
     ensures { (result ≡ run_of r (steps_in l.now (length l.now / 6))) × (out.new ≡ filled out.old (answers_of r (steps_in l.now (length l.now / 6)))) }
 {
-    let count = l.len() / 6;
     let mut x = r;
-    let mut i = 0;
-    while i < count {
-        let at = 6 * i;
-        let t = step_in(&l[at..at + 6]);
-        let a = x.advance(t);
-        note(out, i, a.answer, a.detail);
-        x = a.run;
-        i += 1;
+    for i in 0..l.len() / 6 {
+        match x.advance(step_from(l, i)) {
+            Ok(after) => {
+                note(out, i, 0, after.detail);
+                x = after.state;
+            }
+            Err(refusal) => note(out, i, refusal.number(), 0),
+        }
     }
     x
 }
@@ -150,15 +148,17 @@ pub struct Counted {
 }
 
 impl Counted {
-    // After a step that answered so.
-    fn after(self, t: Step, answer: u8) -> Counted
-        ensures { result ≡ counted_after self t answer }
+    // After a step that was made or refused.
+    #[tactic(auto, unfolding(crate::specs::Kept::counted_after))]
+    fn after(self, t: Step, made: bool) -> Counted
+        ensures { result ≡ counted_after self t made }
     {
-        let had_accepted = self.accepted;
-        let accepted = grown(had_accepted, t.end, both(t.step == 1, answer == 0));
-        let had_taken = self.taken;
-        let taken = grown(had_taken, t.end, both(t.step == 6, answer == 0));
-        Counted { accepted, taken }
+        let submits = t.action() == Some(Action::Submit);
+        let takes = t.action() == Some(Action::Take);
+        Counted {
+            accepted: grown(self.accepted, t.end, submits && made),
+            taken: grown(self.taken, t.end, takes && made),
+        }
     }
 }
 
@@ -166,9 +166,7 @@ impl Counted {
 fn will_last(p: Pair) -> bool
     ensures { result ≡ will_last p }
 {
-    let first = p.ends[0];
-    let second = p.ends[1];
-    both(p.in_shape(), first.setup.n == second.setup.n)
+    p.in_shape() && p.ends[0].setup.n == p.ends[1].setup.n
 }
 
 // Runs the steps on the pair in this memory, which stays in shape: no step asks for it, and none copies the pair.
@@ -184,16 +182,13 @@ fn run_words(
     ensures m_len { length m.new ≡ pair_words }
     ensures out_after { out.new ≡ filled out.old (answers_of (run_in links m.old start) (steps_in l.now (length l.now / 6))) }
 {
-    let count = l.len() / 6;
     let mut c = start;
-    let mut i = 0;
-    while i < count {
-        let at = 6 * i;
-        let t = step_in(&l[at..at + 6]);
-        let s = memory::step(m, links, t);
-        note(out, i, s.answer, s.detail);
-        c = c.after(t, s.answer);
-        i += 1;
+    for i in 0..l.len() / 6 {
+        let t = step_from(l, i);
+        let outcome = memory::step(m, links, t);
+        note(out, i, answers::answer_of(outcome), outcome.unwrap_or(0));
+        let made = outcome.is_ok();
+        c = c.after(t, made);
     }
     c
 }
@@ -204,19 +199,13 @@ fn run_kept(r: Run, l: &[u32], out: &mut [u32]) -> Run
     ensures { (result ≡ run_of r (steps_in l.now (length l.now / 6))) × (out.new ≡ filled out.old (answers_of r (steps_in l.now (length l.now / 6)))) }
 {
     let mut m = [0u64; WORDS];
-    let p = r.pair;
-    let links = memory::setups_of(p);
-    memory::store(&mut m, p);
-    let accepted = r.accepted;
-    let taken = r.taken;
-    let c = run_words(&mut m, links, Counted { accepted, taken }, l, out);
-    let pair = memory::load(&m, links);
-    let had_accepted = c.accepted;
-    let had_taken = c.taken;
+    let links = memory::setups_of(r.pair);
+    memory::store(&mut m, r.pair);
+    let Counted { accepted, taken } = run_words(&mut m, links, r.counted(), l, out);
     Run {
-        pair,
-        accepted: had_accepted,
-        taken: had_taken,
+        pair: memory::load(&m, links),
+        accepted,
+        taken,
     }
 }
 
@@ -234,6 +223,5 @@ pub fn run_listing(r: Run, l: &[u32], out: &mut [u32]) -> Run
 pub fn run_steps(r: Run, l: &[u32]) -> Run
     ensures { result ≡ run_of r (steps_in l.now (length l.now / 6)) }
 {
-    let mut none = [0u32; 1];
-    run_listing(r, l, &mut none[0..0])
+    run_listing(r, l, &mut [])
 }

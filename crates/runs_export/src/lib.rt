@@ -5,6 +5,7 @@
 #![tactic(auto)]
 
 ghost use Rattle.std.specs.Prelude.{◌≡◌, ◌*◌, ◌≤◌, length};
+ghost use Rattle.answers.specs.Answers.{number_of};
 ghost use Rattle.pairs.specs.Pairs.{end_at};
 ghost use Rattle.script.specs.Script.{list_after, most_steps, steps_in};
 ghost use Rattle.runs.specs.Runs.{answers_of, filled, run_of};
@@ -13,10 +14,11 @@ ghost use Rattle.runs_export.specs.Ran.{out_after, ran_by, ran_of, refused_as};
 
 use pairs::Pair;
 use runs::Run;
+use script::Rejection;
 use setup::Setup;
 
 // What the run of a script gives: its steps, then, by end, packets accepted by Submit there, packets taken there and
-// the retrain count. A refused script has an answer and a place, and zeros.
+// the retrain count. A refused script has an answer and a place, and zeros. A host in C reads it: hence its layout, and the number.
 #[repr(C)]
 #[derive(Clone, Copy)]
 pub struct Ran {
@@ -31,9 +33,7 @@ pub struct Ran {
 fn fresh(link: Setup) -> Run
     ensures { result ≡ fresh_of link }
 {
-    let started = Pair::start(link);
-    let pair = started.pair;
-    Run::start(pair)
+    Run::start(Pair::start(link).unwrap_or(Pair::of(Setup::blank())))
 }
 
 // ---- the packets taken
@@ -41,8 +41,7 @@ fn fresh(link: Setup) -> Run
 fn taken_by(run: Run) -> u32
     ensures { result ≡ taken_by run }
 {
-    let taken = run.taken;
-    std::num::wrapping_add_u32(taken[0], taken[1])
+    run.taken[0].wrapping_add(run.taken[1])
 }
 
 fn taken_after(link: Setup, l: &[u32], count: usize) -> u32
@@ -52,25 +51,26 @@ fn taken_after(link: Setup, l: &[u32], count: usize) -> u32
     taken_by(runs::run_steps(fresh(link), &l[..6 * count]))
 }
 
+#[tactic(auto, using(answers::proofs::Outcomes::no_refusal_is_0), unfolding(crate::specs::Taken::taken_in))]
 #[unsafe(no_mangle)]
 pub extern "C" fn script_taken(b: &[u8], l: &mut [u32]) -> u32
     ensures { (result ≡ taken_in b.now l.old) × (l.new ≡ list_after b.now l.old) }
 {
-    let got = script::read_script(b, l);
-    if got.answer != 0 {
-        return 0;
+    match script::read_script(b, l) {
+        Ok(script) => taken_after(script.setup, l, script.count),
+        Err(_) => 0,
     }
-    taken_after(got.setup, l, got.count)
 }
 
 // ---- every count, and the answers
 
-fn refused(answer: u8, place: usize) -> Ran
-    ensures { result ≡ refused_as answer place }
+#[tactic(auto, unfolding(crate::specs::Ran::refused_as))]
+fn refused(r: Rejection) -> Ran
+    ensures { result ≡ refused_as (number_of r.refusal) r.place }
 {
     Ran {
-        answer: answer as u32,
-        place: (place % 4294967296) as u32,
+        answer: u32::from(r.refusal.number()),
+        place: (r.place % 4294967296) as u32,
         count: 0,
         accepted: [0u32; 2],
         taken: [0u32; 2],
@@ -82,17 +82,18 @@ fn retrains_at(p: Pair, i: usize) -> u32
     requires { i ≤ 1 }
     ensures { result ≡ (end_at p i).sender.replay.retrains.0 }
 {
-    let e = p.ends[i];
-    e.sender.replay.retrains.0 as u32
+    u32::from(p.ends[i].sender.replay.retrains.0)
 }
 
 fn ran_by(run: Run, count: usize) -> Ran
     requires { count ≤ most_steps }
     ensures { result ≡ ran_by run count }
 {
-    let accepted = run.accepted;
-    let taken = run.taken;
-    let pair = run.pair;
+    let Run {
+        pair,
+        accepted,
+        taken,
+    } = run;
     let retrains = [retrains_at(pair, 0), retrains_at(pair, 1)];
     Ran {
         answer: 0,
@@ -108,17 +109,16 @@ fn ran_after(link: Setup, l: &[u32], count: usize, out: &mut [u32]) -> Ran
     requires { (count ≤ most_steps) × (6 * count ≤ length l.now) }
     ensures { (result ≡ ran_by (run_of (fresh_of link) (steps_in l.now count)) count) × (out.new ≡ filled out.old (answers_of (fresh_of link) (steps_in l.now count))) }
 {
-    let run = runs::run_listing(fresh(link), &l[..6 * count], out);
-    ran_by(run, count)
+    ran_by(runs::run_listing(fresh(link), &l[..6 * count], out), count)
 }
 
+#[tactic(auto, using(answers::proofs::Outcomes::no_refusal_is_0), unfolding(crate::specs::Ran::ran_of, crate::specs::Ran::out_after))]
 #[unsafe(no_mangle)]
 pub extern "C" fn script_run(b: &[u8], l: &mut [u32], out: &mut [u32]) -> Ran
     ensures { (result ≡ ran_of b.now l.old) × (l.new ≡ list_after b.now l.old) × (out.new ≡ out_after b.now l.old out.old) }
 {
-    let got = script::read_script(b, l);
-    if got.answer != 0 {
-        return refused(got.answer, got.place);
+    match script::read_script(b, l) {
+        Ok(script) => ran_after(script.setup, l, script.count, out),
+        Err(rejection) => refused(rejection),
     }
-    ran_after(got.setup, l, got.count, out)
 }

@@ -98,11 +98,6 @@ module _ {A : Type 0} (m : List A) (a : ℕ) (ys : List A) (h : a ≤ length m) 
     pub part-after : a + length ys ≤ at → part (patched m a ys) at n ≡ part m at n
     part-after b = rw (drop-after m a ys at h b)
 
-    pub part-within : at ≤ a → a + length ys ≤ at + n → part (patched m a ys) at n ≡ patched (part m at n) (a - at) ys
-    part-within b c =
-        let l : a - at ≤ length (drop at m) = rw length-drop (omega arith) in
-        ap (λ r. take n r) (drop-before m a ys at h b) ∙ take_after (drop at m) (a - at) ys n l (omega arith)
-
   pub get_or-before : (k : ℕ) (d : A) → k < a → get_or (patched m a ys) k d ≡ get_or m k d
   get_or-before k d b =
       let front : length (take a m) ≡ a = length-take-le a m h in

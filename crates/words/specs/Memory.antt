@@ -1,9 +1,7 @@
 -- A pair in memory that is lent as words: where each part of it stands, and what the words mean. The setups of the two ends never change
 -- and are kept beside it. Assumes nothing: words that are missing count as 0.
-use Rattle.std.specs.Prelude.{ℕ, ◌+◌, ◌*◌, ◌%◌, Bool, not, List, [], ◌∷◌, map, eqb, take, get_or, if◌then◌else◌}
+use Rattle.std.specs.Prelude.{ℕ, ◌+◌, ◌*◌, ◌%◌, not, List, [], ◌∷◌, map, eqb, take, get_or, if◌then◌else◌, Some, None, Option}
 use Rattle.basics.specs.Parts.{part, cut}
-use Rattle.basics.specs.declared.Found.{Found}
-use Rattle.basics.specs.declared.Found.TheVariants.{At, Nothing}
 use Rattle.counters.specs.Counters.{retrains}
 use Rattle.store.specs.declared.Packets.{Packets}
 use Rattle.store.specs.Store.{packets}
@@ -16,7 +14,6 @@ use Rattle.sender.specs.declared.Replay.{Replay}
 use Rattle.sender.specs.declared.Sender.{Sender}
 use Rattle.sender.specs.Sender.{replay, sender}
 use Rattle.receiver.specs.declared.Owed.{Owed}
-use Rattle.receiver.specs.declared.Owed.TheVariants as Owed
 use Rattle.receiver.specs.declared.Reply.{Reply}
 use Rattle.receiver.specs.declared.Receiver.{Receiver}
 use Rattle.receiver.specs.Receiver.{reply, receiver}
@@ -62,8 +59,8 @@ replay_at = 259
 abbrev pub sender_words : ℕ
 sender_words = 263
 
-abbrev pub found_in : ℕ → ℕ → Found
-found_in runs place = if eqb runs 0 then Nothing else At place
+abbrev pub found_in : ℕ → ℕ → Option ℕ
+found_in runs place = if eqb runs 0 then None else Some place
 
 -- of its four words
 abbrev pub replay_in : List ℕ → Replay

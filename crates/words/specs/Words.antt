@@ -1,6 +1,6 @@
 -- Small structs as one number of 64 bits, a word, each field at a place of its own: what a word means, and the word of a struct.
 -- What the fields of a word leave over has no meaning. Assumes nothing.
-use Rattle.std.specs.Prelude.{ℕ, ◌+◌, ◌*◌, ◌/◌, ◌%◌, Bool, true, false, eqb, if◌then◌else◌}
+use Rattle.std.specs.Prelude.{ℕ, ◌+◌, ◌*◌, ◌/◌, ◌%◌, eqb, if◌then◌else◌}
 use Rattle.counters.specs.declared.Counts.{Counts}
 use Rattle.counters.specs.declared.Seq.{Seq}
 use Rattle.counters.specs.Counters.{headers, datas, seq, counts}
@@ -9,12 +9,21 @@ use Rattle.packets.specs.declared.Category.TheVariants.{Posted, NonPosted, Compl
 use Rattle.packets.specs.declared.Packet.{Packet}
 use Rattle.packets.specs.Packets.{number_of}
 use Rattle.frames.specs.declared.Frame.{Frame}
-use Rattle.frames.specs.declared.Frame.TheVariants as Frame
 use Rattle.frames.specs.declared.Message.{Message}
-use Rattle.frames.specs.declared.Message.TheVariants as Message
 use Rattle.credits.specs.declared.Credit.{Credit}
 use Rattle.credits.specs.declared.Room.{Room}
 use Rattle.credits.specs.Credits.{credit, room}
+use Rattle.setup.specs.declared.Units.{Units}
+
+-- ---- a number of eight bits
+
+abbrev pub byte_in : ℕ → ℕ
+byte_in w = w % 256
+
+-- ---- units of a setup: header units, data units
+
+abbrev pub units_in : ℕ → Units
+units_in w = record { header = w % 65536; payload = w / 65536 % 65536 }
 
 -- ---- a packet: kind, class, length, ident
 

@@ -2,126 +2,196 @@
 // Assumes nothing: every word means something.
 #![tactic(auto)]
 
-ghost use Rattle.std.specs.Prelude.{◌≡◌, ◌<◌};
+ghost use Rattle.std.specs.Prelude.{◌≡◌, ℕ, ◌<◌};
 ghost use Rattle.frames.specs.declared.Frame.TheVariants as Frame;
-ghost use Rattle.words.specs.Words.{packet_in, packet_word, counts_in, counts_word, credit_in, credit_word, room_in, room_word, seq_in, category_in, message_in, message_word, frame_in, head_word, rest_word};
+ghost use Rattle.words.specs.Memory.{owed_in};
+ghost use Rattle.words.specs.Words.{byte_in, units_in, packet_in, packet_word, counts_in, counts_word, credit_in, credit_word, room_in, room_word, seq_in, category_in, message_in, message_word, frame_in, head_word, rest_word};
 
 use counters::{Counts, Data, Header, Seq};
 use credits::{Credit, Room};
 use frames::{Frame, Message};
 use packets::{Category, Packet};
+use receiver::Owed;
+use setup::Units;
 
-pub fn packet_in(w: u64) -> Packet
-    ensures { result ≡ packet_in w }
-{
-    Packet {
-        kind: (w % 256) as u8,
-        class: (w / 256 % 256) as u8,
-        length: (w / 65536 % 65536) as u16,
-        ident: (w / 4294967296 % 4294967296) as u32,
+// A value that stands in one word.
+pub trait Word {
+    // What a word means.
+    ghost meaning: { ℕ → Self };
+
+    fn from_word(w: u64) -> Self
+        ensures { result ≡ meaning w };
+
+    fn to_word(self) -> u64
+        ensures result_value { meaning result ≡ self };
+}
+
+impl Word for u8 {
+    ghost meaning = { byte_in };
+
+    fn from_word(w: u64) -> u8 {
+        (w % 256) as u8
+    }
+
+    fn to_word(self) -> u64 {
+        u64::from(self)
     }
 }
 
-pub fn packet_word(p: Packet) -> u64
-    ensures value { result ≡ packet_word p }
-    ensures result_value { packet_in result ≡ p }
-{
-    p.kind as u64
-        + 256 * (p.class as u64)
-        + 65536 * (p.length as u64)
-        + 4294967296 * (p.ident as u64)
-}
+impl Word for Owed {
+    ghost meaning = { owed_in };
 
-pub fn counts_in(w: u64) -> Counts
-    ensures { result ≡ counts_in w }
-{
-    let h = Header((w % 256) as u8);
-    let d = Data((w / 256 % 65536) as u16);
-    Counts { h, d }
-}
+    fn from_word(w: u64) -> Owed {
+        match w {
+            0 => Owed::Nothing,
+            1 => Owed::Ack,
+            _ => Owed::Nak,
+        }
+    }
 
-pub fn counts_word(c: Counts) -> u64
-    ensures value { result ≡ counts_word c }
-    ensures result_value { counts_in result ≡ c }
-    ensures upper_bound { result < 16777216 }
-{
-    c.h.0 as u64 + 256 * (c.d.0 as u64)
-}
-
-pub fn credit_in(w: u64) -> Credit
-    ensures { result ≡ credit_in w }
-{
-    let limit = counts_in(w);
-    let consumed = counts_in(w / 16777216);
-    Credit { limit, consumed }
-}
-
-pub fn credit_word(c: Credit) -> u64
-    ensures value { result ≡ credit_word c }
-    ensures result_value { credit_in result ≡ c }
-{
-    let limit = counts_word(c.limit);
-    let consumed = counts_word(c.consumed);
-    limit + 16777216 * consumed
-}
-
-pub fn room_in(w: u64) -> Room
-    ensures { result ≡ room_in w }
-{
-    let allocated = counts_in(w);
-    let received = counts_in(w / 16777216);
-    Room {
-        allocated,
-        received,
-        marked: w / 281474976710656 % 2 == 1,
+    fn to_word(self) -> u64 {
+        match self {
+            Owed::Nothing => 0,
+            Owed::Ack => 1,
+            Owed::Nak => 2,
+        }
     }
 }
 
-pub fn room_word(r: Room) -> u64
-    ensures value { result ≡ room_word r }
-    ensures result_value { room_in result ≡ r }
-{
-    let allocated = counts_word(r.allocated);
-    let received = counts_word(r.received);
-    let both = allocated + 16777216 * received;
-    if r.marked {
-        return both + 281474976710656;
+impl Word for Seq {
+    ghost meaning = { seq_in };
+
+    fn from_word(w: u64) -> Seq {
+        Seq((w % 65536) as u16)
     }
-    both
+
+    fn to_word(self) -> u64
+        ensures value { result ≡ self.0 }
+        ensures result_value { seq_in result ≡ self }
+    {
+        u64::from(self.0)
+    }
 }
 
-pub fn seq_in(w: u64) -> Seq
-    ensures { result ≡ seq_in w }
-{
-    Seq((w % 65536) as u16)
+impl Word for Units {
+    ghost meaning = { units_in };
+
+    fn from_word(w: u64) -> Units {
+        Units {
+            header: (w % 65536) as u16,
+            payload: (w / 65536 % 65536) as u16,
+        }
+    }
+
+    fn to_word(self) -> u64 {
+        u64::from(self.header) + 65536 * u64::from(self.payload)
+    }
+}
+
+impl Word for Packet {
+    ghost meaning = { packet_in };
+
+    fn from_word(w: u64) -> Packet {
+        Packet {
+            kind: (w % 256) as u8,
+            class: (w / 256 % 256) as u8,
+            length: (w / 65536 % 65536) as u16,
+            ident: (w / 4294967296 % 4294967296) as u32,
+        }
+    }
+
+    fn to_word(self) -> u64
+        ensures value { result ≡ packet_word self }
+        ensures result_value { packet_in result ≡ self }
+    {
+        u64::from(self.kind)
+            + 256 * u64::from(self.class)
+            + 65536 * u64::from(self.length)
+            + 4294967296 * u64::from(self.ident)
+    }
+}
+
+impl Word for Counts {
+    ghost meaning = { counts_in };
+
+    fn from_word(w: u64) -> Counts {
+        Counts {
+            h: Header((w % 256) as u8),
+            d: Data((w / 256 % 65536) as u16),
+        }
+    }
+
+    fn to_word(self) -> u64
+        ensures value { result ≡ counts_word self }
+        ensures result_value { counts_in result ≡ self }
+        ensures upper_bound { result < 16777216 }
+    {
+        u64::from(self.h.0) + 256 * u64::from(self.d.0)
+    }
+}
+
+impl Word for Credit {
+    ghost meaning = { credit_in };
+
+    fn from_word(w: u64) -> Credit {
+        Credit {
+            limit: Counts::from_word(w),
+            consumed: Counts::from_word(w / 16777216),
+        }
+    }
+
+    fn to_word(self) -> u64
+        ensures value { result ≡ credit_word self }
+        ensures result_value { credit_in result ≡ self }
+    {
+        self.limit.to_word() + 16777216 * self.consumed.to_word()
+    }
+}
+
+impl Word for Room {
+    ghost meaning = { room_in };
+
+    fn from_word(w: u64) -> Room {
+        Room {
+            allocated: Counts::from_word(w),
+            received: Counts::from_word(w / 16777216),
+            marked: w / 281474976710656 % 2 == 1,
+        }
+    }
+
+    fn to_word(self) -> u64
+        ensures value { result ≡ room_word self }
+        ensures result_value { room_in result ≡ self }
+    {
+        let both = self.allocated.to_word() + 16777216 * self.received.to_word();
+        if self.marked {
+            return both + 281474976710656;
+        }
+        both
+    }
 }
 
 fn category_in(n: u64) -> Category
     ensures { result ≡ category_in n }
 {
-    if n == 0 {
-        return Category::Posted;
+    match n {
+        0 => Category::Posted,
+        1 => Category::NonPosted,
+        _ => Category::Completion,
     }
-    if n == 1 {
-        return Category::NonPosted;
-    }
-    Category::Completion
 }
 
 pub fn message_in(w: u64) -> Message
     ensures { result ≡ message_in w }
 {
-    if w % 4 == 1 {
-        return Message::Ack(seq_in(w / 4));
-    }
-    if w % 4 == 2 {
-        return Message::Nak(seq_in(w / 4));
-    }
-    let counts = counts_in(w / 4096);
-    Message::Update {
-        channel: (w / 4 % 256) as u8,
-        category: category_in(w / 1024 % 4),
-        counts,
+    match w % 4 {
+        1 => Message::Ack(Seq::from_word(w / 4)),
+        2 => Message::Nak(Seq::from_word(w / 4)),
+        _ => Message::Update {
+            channel: (w / 4 % 256) as u8,
+            category: category_in(w / 1024 % 4),
+            counts: Counts::from_word(w / 4096),
+        },
     }
 }
 
@@ -130,15 +200,15 @@ pub fn message_word(m: Message) -> u64
     ensures result_value { frame_in result 0 ≡ Frame.Message m }
 {
     match m {
-        Message::Ack(number) => 1 + 4 * (number.0 as u64),
-        Message::Nak(number) => 2 + 4 * (number.0 as u64),
+        Message::Ack(number) => 1 + 4 * number.to_word(),
+        Message::Nak(number) => 2 + 4 * number.to_word(),
         Message::Update {
             channel,
             category,
             counts,
         } => {
-            let c = category.number() as u64;
-            3 + 4 * (channel as u64) + 1024 * c + 4096 * counts_word(counts)
+            let c = u64::from(category.number());
+            3 + 4 * u64::from(channel) + 1024 * c + 4096 * counts.to_word()
         }
     }
 }
@@ -156,8 +226,8 @@ pub fn frame_words(f: Frame) -> Pairing
 {
     match f {
         Frame::Packet(number, p) => Pairing {
-            head: 4 * (number.0 as u64),
-            rest: packet_word(p),
+            head: 4 * number.to_word(),
+            rest: p.to_word(),
         },
         Frame::Message(m) => Pairing {
             head: message_word(m),
@@ -170,7 +240,7 @@ pub fn frame_in(head: u64, rest: u64) -> Frame
     ensures { result ≡ frame_in head rest }
 {
     if head % 4 == 0 {
-        return Frame::Packet(seq_in(head / 4), packet_in(rest));
+        return Frame::Packet(Seq::from_word(head / 4), Packet::from_word(rest));
     }
     Frame::Message(message_in(head))
 }

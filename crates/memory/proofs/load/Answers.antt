@@ -1,15 +1,14 @@
--- `load` meets its contract.
+-- `memory::load` meets its contract.
 -- Assumes nothing.
 use Rattle.std.proofs.Common.{rules}
 use borrow.Author.Tests.{ne_eqb}
 use mathlib.Core.Path.{◌≡◌}
 use lib.ListN.{length}
-use Rattle.memory.proofs.LoadLaws.{pair_read}
+use Rattle.memory.proofs.LoadLaws.{blank_started, pair_read}
 use Rattle.memory.proofs.load.Goals as goal
 
 pub returns-then-m-ne-WORDS : goal.returns-then-m-ne-WORDS
-returns-then-m-ne-WORDS c =
-    simp (ne_eqb _ _ c.if-m-ne-WORDS.true, c.start-none.ensures, c.blank.ensures)
+returns-then-m-ne-WORDS c = rw (ne_eqb _ _ c.if-m-ne-WORDS.true, c.of.ensures, c.blank.ensures, blank_started)
 
 pub returns : goal.returns
 returns c =

@@ -1,6 +1,6 @@
 -- `runs::run_words` meets its contract: the invariant: the pair in the memory is that of the run so far and stays in shape, and the list holds the answers.
 -- Assumes nothing.
-use Rattle.std.proofs.Common.{◌≡◌, ◌-◌, ◌≤◌, length}
+use Rattle.std.proofs.Common.{◌≡◌, length}
 use Rattle.script.specs.Script.{steps_in}
 use Rattle.words.specs.Memory.{pair_words, pair_in}
 use Rattle.lasting.proofs.Pairs.{Sound}
@@ -10,8 +10,5 @@ use Rattle.runs.proofs.run_words.Given as goal
 
 abbrev pub invariant-loop-i : goal.invariant-loop-i
 invariant-loop-i l =
-    (l.i ≤ l.count) × (length l.m ≡ pair_words) × (length l.out ≡ length l.initial.out) × Sound (pair_in l.links l.m) × (run_in l.links l.m l.c ≡ run_of (run_in l.links l.initial.m l.initial.c) (steps_in l.l l.i))
+    (length l.m ≡ pair_words) × (length l.out ≡ length l.initial.out) × Sound (pair_in l.links l.m) × (run_in l.links l.m l.c ≡ run_of (run_in l.links l.initial.m l.initial.c) (steps_in l.l l.i))
     × (l.out ≡ filled l.initial.out (answers_of (run_in l.links l.initial.m l.initial.c) (steps_in l.l l.i)))
-
-abbrev pub decreases-loop-i : goal.decreases-loop-i
-decreases-loop-i l = l.count - l.i

@@ -6,4 +6,4 @@ use Rattle.runs_export.proofs.ran_after.Goals as goal
 pub returns : goal.returns
 returns c =
     let front = steps_lent c.args.count c.args.l.now c.requires.1 in
-    (simp (c.ran_by.ensures, c.run_listing-run.ensures.0, c.fresh.ensures, front), simp (c.run_listing-run.ensures.1, c.fresh.ensures, front))
+    (simp (c.ran_by.ensures, c.run_listing.ensures.0, c.fresh.ensures, front), simp (c.run_listing.ensures.1, c.fresh.ensures, front))

@@ -1,21 +1,13 @@
 -- `hosts::end_refresh` meets its contract: the end steps on its own words, and the setup behind it stays.
 -- Assumes nothing.
-use Prim.Native.Nat.{ℕ}
 use mathlib.Core.Path.{refl}
-use Rattle.ends.specs.declared.Stepped.{Stepped}
-use Rattle.ends.specs.Ends.{refresh_of}
-use Rattle.memory.specs.Hosted.{link_in, hosted_in}
 use Rattle.memory.proofs.KeepLaws.{made}
-use Rattle.memory.proofs.HostLaws.{refuses, by_whole, refresh-answer}
+use Rattle.memory.specs.Hosted.{hosted_in, link_in}
+use Rattle.memory.proofs.HostLaws.{leaves}
 use Rattle.memory.proofs.hosts.end_refresh.Goals as goal
 
-pub returns-then-m-ne-HOSTED : goal.returns-then-m-ne-HOSTED
-returns-then-m-ne-HOSTED c =
-    let both = refuses (λ (n : ℕ). n) (λ (s : Stepped). s.answer) 10 c.args.m.now (refresh_of (hosted_in c.args.m.now)) 10 c.if-m-ne-HOSTED.true refl in
-    record { value = both.0; leaves = both.1 }
-
-pub returns : goal.returns
-returns c =
-    let both = by_whole (λ (n : ℕ). n) (λ (x : Stepped). x.answer) 10 c.args.m.now c.if-m-ne-HOSTED.false refresh_of (link_in c.args.m.now) refl 0 c.refresh.new.m
-    ((refresh-answer _, c.refresh.ensures.m_after (link_in c.args.m.now) c.n_in-n.ensures), (c.refresh.ensures.m_len, made)) in
-    record { value = both.0; leaves = both.1 }
+pub returns-clause-leaves : goal.returns-clause-leaves
+unfolding hosted_in
+returns-clause-leaves c =
+    let a = c.refresh.ensures in
+    leaves c.args.m.now c.if-m-ne-HOSTED.false 0 _ refl _ _ (a.m_after (link_in c.args.m.now) c.n_in-n.ensures) a.m_len made

@@ -1,7 +1,6 @@
 -- `memory::lists::choose` meets its contract. The loop's invariant: what is found from i on is what is found from the front, and
 -- `seen` says which categories the packets before i are of.
 -- Assumes nothing.
-use Prim.Native.Nat.{◌-◌, ◌≤◌}
 use mathlib.Core.Path.{◌≡◌}
 use mathlib.Core.List.{[], map}
 use lib.ListN.{take, drop}
@@ -15,10 +14,6 @@ use Rattle.memory.proofs.lists.choose.Given as goal
 
 abbrev pub invariant-loop-i : goal.invariant-loop-i
 invariant-loop-i l =
-    (l.i ≤ l.n)
-    × (l.seen ≡ seen_in (take l.i (held (packets_in l.q))))
+    (l.seen ≡ seen_in (take l.i (held (packets_in l.q))))
     × (find_after (eligible (map credit_in l.k)) [] (held (packets_in l.q)) 0
     ≡ find_after (eligible (map credit_in l.k)) (take l.i (held (packets_in l.q))) (drop l.i (held (packets_in l.q))) l.i)
-
-abbrev pub decreases-loop-i : goal.decreases-loop-i
-decreases-loop-i l = l.n - l.i

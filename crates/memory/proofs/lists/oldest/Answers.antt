@@ -1,37 +1,18 @@
--- `memory::lists::oldest` meets its contract. The loop's invariant: what is found from i on is what is found from the front.
+-- `memory::lists::oldest` meets its contract: the first word that passes is that of the first packet that does.
 -- Assumes nothing.
-use native.Mathlib.Omega.{arith}
-use mathlib.Core.Path.{◌≡◌, refl, sym, ap, ◌∙◌}
-use lib.ListN.{get_or}
-use Rattle.basics.proofs.Walk.{find-here, find-next, find-end}
-use Rattle.store.specs.Store.{held, no_packet, is_of}
-use Rattle.words.specs.Memory.{packets_in}
-use Rattle.memory.proofs.ListsLaws.{item_is}
+use lib.ListN.{take}
+use Rattle.std.proofs.Common.{rules, tests, ◌∙◌}
+use Rattle.std.specs.Prelude.{◌≡◌, position}
+use Rattle.std.proofs.lemmas.Iterator.{YieldsList-from_slice}
+use Rattle.std.proofs.lemmas.Iterator.Search.{position_from_yields_List}
+use Rattle.store.specs.Store.{is_of}
+use Rattle.words.specs.Words.{packet_in}
+use Rattle.memory.proofs.ListsLaws.{held_is, position_mapped}
 use Rattle.memory.proofs.lists.oldest.Goals as goal
-
-pub loop-i-init : goal.loop-i-init
-loop-i-init c = (omega arith, refl)
-
-pub returns-then-is_of : goal.returns-then-is_of
-returns-then-is_of c =
-    -- the code's test of the packet at i is the definition's
-    let tested : is_of c.args.c (get_or (packets_in c.args.q.now).items c.loop-i.i no_packet) ≡ c.is_of.result =
-    ap (is_of c.args.c) (item_is c.args.q.now c.requires c.loop-i.i (omega (arith, c.size-n.ensures.upper_bound))) ∙ sym c.is_of.ensures in
-    let q = packets_in c.args.q.now in
-    sym (c.loop-i.invariant.1
-    ∙ find-here q.items q.len c.loop-i.i no_packet (omega (arith, c.size-n.ensures.value)) (is_of c.args.c) (tested ∙ c.if-is_of.true))
-
-pub loop-i-preserved : goal.loop-i-preserved
-loop-i-preserved c =
-    -- the code's test of the packet at i is the definition's
-    let tested : is_of c.args.c (get_or (packets_in c.args.q.now).items c.loop-i.i no_packet) ≡ c.is_of.result =
-    ap (is_of c.args.c) (item_is c.args.q.now c.requires c.loop-i.i (omega (arith, c.size-n.ensures.upper_bound))) ∙ sym c.is_of.ensures in
-    let q = packets_in c.args.q.now in (
-      omega arith,
-      c.loop-i.invariant.1
-          ∙ find-next q.items q.len c.loop-i.i no_packet (omega (arith, c.size-n.ensures.value)) (is_of c.args.c) (tested ∙ c.if-is_of.false),
-    )
 
 pub returns : goal.returns
 returns c =
-    sym (c.loop-i.invariant.1 ∙ find-end (held (packets_in c.args.q.now)) c.loop-i.i (omega (arith, c.size-n.ensures.value)) (is_of c.args.c))
+    let e : c.position.result ≡ position (λ w. is_of c.args.c (packet_in w)) (take c.size.result c.args.q.now) =
+    position_from_yields_List (λ w. is_of c.args.c (packet_in w)) _ _ c.position.result c.position.ensures.ran (YieldsList-from_slice _ c.iter.ensures.rest)
+    (λ x b q k. search (rules, tests)) in
+    rw (held_is c.args.q.now c.requires c.size.result c.size.ensures.value) (e ∙ position_mapped (is_of c.args.c) packet_in (take c.size.result c.args.q.now))

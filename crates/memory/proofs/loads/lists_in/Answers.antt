@@ -1,22 +1,23 @@
--- `loads::lists_in` meets its contract. The invariant: the parts passed are read, and behind them stand the first ones.
+-- `loads::lists_in` meets its contract: each call reads its part.
 -- Assumes nothing.
+use Rattle.std.proofs.Common.{rules}
 use native.Mathlib.Omega.{arith}
 use Prim.Native.Nat.{◌+◌, ◌-◌, ◌*◌}
-use mathlib.Core.Path.{◌≡◌, refl}
-use Rattle.basics.specs.Parts.{cut}
+use mathlib.Core.Path.{◌≡◌, sym, ◌∙◌}
+use mathlib.Core.List.{[], map}
+use Rattle.basics.specs.Parts.{part, cut}
+use Rattle.basics.proofs.Parts.{length-read}
 use Rattle.setup.specs.Setup.{channels}
 use Rattle.words.specs.Memory.{list_words, packets_in}
-use Rattle.memory.proofs.LoadLaws.{part-read, parts_read}
+use Rattle.words.proofs.Lists.{read_at}
+use Rattle.memory.proofs.LoadLaws.{made_of}
 use Rattle.memory.proofs.loads.lists_in.Goals as goal
 
-pub loop-c-init : goal.loop-c-init
-unfolding cut
-loop-c-init c = (omega arith, refl)
-
-pub loop-c-preserved : goal.loop-c-preserved
-loop-c-preserved c =
-    let wide : list_words * c.loop-c.c + list_words - list_words * c.loop-c.c ≡ list_words = omega arith in
-    (omega arith, part-read packets_in list_words _ _ _ _ c.loop-c.invariant.1 _ (rw wide at c.packets_in.ensures) (omega arith))
-
 pub returns : goal.returns
-returns c = parts_read packets_in list_words _ _ _ _ c.loop-c.invariant.1 channels (omega arith) refl
+returns c =
+    let m = c.args.m.now in
+    made_of _ _ _ (map packets_in (cut list_words channels m)) (packets_in []) _ (length-read packets_in list_words channels m) c.from_fn.ensures.items
+    (λ i h y q k.
+    let wide : list_words * i + list_words - list_words * i ≡ list_words = omega arith in
+    let e : y ≡ packets_in (part m (list_words * i) (list_words * i + list_words - list_words * i)) = search rules in
+    (search rules, rw wide at e ∙ sym (read_at packets_in list_words channels m i (packets_in []) h)))

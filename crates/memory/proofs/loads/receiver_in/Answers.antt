@@ -6,4 +6,4 @@ use Rattle.memory.proofs.loads.receiver_in.Goals as goal
 
 pub returns : goal.returns
 returns c =
-    receiver-read c.args.r.now (omega arith) _ c.lists_in-inboxes.ensures _ c.rooms_in-rooms.ensures _ c.reply-reply.ensures
+    receiver-read c.args.r.now (omega arith) _ c.lists_in-inboxes.ensures _ c.all_in-rooms.ensures _ c.reply-reply.ensures

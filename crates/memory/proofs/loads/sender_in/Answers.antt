@@ -6,5 +6,5 @@ use Rattle.memory.proofs.loads.sender_in.Goals as goal
 
 pub returns : goal.returns
 returns c =
-    sender-read c.args.s.now (omega arith) _ c.lists_in-queues.ensures _ c.packets_in-buffer.ensures _ c.credits_in-credits.ensures
-    _ _ c.seq_in-next.ensures c.seq_in-acked.ensures _ c.replay-replay.ensures
+    sender-read c.args.s.now (omega arith) _ c.lists_in-queues.ensures _ c.packets_in-buffer.ensures _ c.all_in-credits.ensures
+    _ _ c.from_word-next.ensures c.from_word-acked.ensures _ c.replay-replay.ensures

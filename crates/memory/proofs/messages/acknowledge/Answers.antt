@@ -16,7 +16,7 @@ use Rattle.memory.proofs.messages.acknowledge.Goals as goal
 pub slice_bounds-write_replay-end : goal.slice_bounds-write_replay-end
 slice_bounds-write_replay-end c =
     let l : length c.args.s.now ≡ sender_words = omega arith in
-    omega (arith, released-long c.args.s.now l c.release.new.q c.args.number.0 c.release.ensures.q_len)
+    omega (arith, released-long c.args.s.now l c.release.new.q c.to_word.result c.release.ensures.q_len)
 
 pub returns : goal.returns
 returns c =
@@ -25,12 +25,12 @@ returns c =
     buffer_back c.args.s.now l c.release.new.q _ c.release.ensures.q_len
     (c.release.ensures.q_after ∙ ap (λ (q : Packets). released q c.sub-k.result.0) (buffer_read c.args.s.now l)) in
     let t = put_mid buffer_at list_words c.args.s.now c.release.new.q in
-    let stored = acked-back t freed.1 c.args.number (omega (arith, c.well_formed)) in
-    let shifted = replay-back (set t acked_at c.args.number.0) stored.1 c.write_replay.new.x _ c.write_replay.ensures.x_len c.write_replay.ensures.x_after in record {
-      s_after = acknowledged-steps _ c.args.number _ _ _ c.sub-k.result.0 c.moved-at.result c.replay-running.result c.replay-running.ensures
-          (releases-read c.args.s.now l c.args.number _ _ c.seq_in.ensures c.sub-k.ensures)
+    let stored = acked-back t freed.1 c.to_word.result c.args.number c.to_word.ensures.result_value in
+    let shifted = replay-back (set t acked_at c.to_word.result) stored.1 c.write_replay.new.x _ c.write_replay.ensures.x_len c.write_replay.ensures.x_after in record {
+      s_after = acknowledged-steps _ c.args.number _ _ _ c.sub-k.result.0 c.moved.result c.replay-running.result c.replay-running.ensures
+          (releases-read c.args.s.now l c.args.number _ _ c.from_word.ensures c.sub-k.ensures)
           freed.0
-          (c.moved-at.ensures ∙ ap (λ n. moved c.sub-k.result.0 n c.replay-running.result.at) (out_is t freed.1))
+          (c.moved.ensures ∙ ap (λ n. moved c.sub-k.result.0 n c.replay-running.result.at) (out_is t freed.1))
           stored.0
           shifted.0;
       s_len = shifted.1;

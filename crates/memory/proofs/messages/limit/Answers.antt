@@ -3,36 +3,30 @@
 use native.Mathlib.Omega.{arith}
 use mathlib.Core.Path.{◌≡◌, refl, ◌∙◌}
 use lib.ListN.{length}
+use Rattle.std.proofs.lemmas.Result.{err_from_is_err_and}
+use Rattle.answers.specs.Answers.{number_of}
+use Rattle.answers.proofs.Outcomes.{never_0}
 use Rattle.words.specs.Memory.{sender_words}
 use Rattle.memory.proofs.SendingLaws.{credit-read, credit-back}
-use Rattle.memory.proofs.MessageLaws.{limited_past, limited-not, limited_goes}
-use Rattle.memory.proofs.KeepLaws.{made}
+use Rattle.memory.proofs.MessageLaws.{limited-not, limited_goes}
 use Rattle.memory.proofs.messages.limit.Goals as goal
 
-pub returns-then-n-ge-CHANNELS : goal.returns-then-n-ge-CHANNELS
-returns-then-n-ge-CHANNELS c =
+pub returns-in_err-update_answer-clause-value : goal.returns-in_err-update_answer-clause-value
+returns-in_err-update_answer-clause-value c =
     let l : length c.args.s.now ≡ sender_words = omega arith in
-    record { value = limited_past _ c.args.channel c.args.c c.args.limits c.if-n-ge-CHANNELS.true; s_len = l; keeps = λ _. refl }
+    let p = err_from_is_err_and c.from_residual.result c.from_residual.ensures.1 in
+    let refusal = c.in_err-update_answer.field-0.0 in
+    rw (p.1, p.2)
+    (limited-not _ c.args.channel c.args.c c.args.limits c.if-n-ge-CHANNELS.false c.from_word-credit.result
+    (c.from_word-credit.ensures ∙ credit-read c.args.s.now l c.args.channel c.number.result c.args.c c.if-n-ge-CHANNELS.false c.number.ensures)
+    (number_of refusal) c.in_err-update_answer.ensures (never_0 refusal))
 
-pub returns-then-update_answer-ne0 : goal.returns-then-update_answer-ne0
-returns-then-update_answer-ne0 c =
-    let l : length c.args.s.now ≡ sender_words = omega arith in record {
-      value = limited-not _ c.args.channel c.args.c c.args.limits c.if-n-ge-CHANNELS.false c.credit_in-credit.result
-          (c.credit_in-credit.ensures ∙ credit-read c.args.s.now l c.args.channel c.number.result c.args.c c.if-n-ge-CHANNELS.false c.number.ensures)
-          c.update_answer.result c.update_answer.ensures c.if-update_answer-ne0.true;
-      s_len = l;
-      keeps = λ _. refl;
-    }
-
-pub returns : goal.returns
-returns c =
+pub returns-clause-value : goal.returns-clause-value
+returns-clause-value c =
     let l : length c.args.s.now ≡ sender_words = omega arith in
     let stored =
-    credit-back c.args.s.now l c.args.channel c.number.result c.args.c c.if-n-ge-CHANNELS.false c.number.ensures c.credit_word.result _
-    (c.credit_word.ensures.result_value ∙ c.updated.ensures) in record {
-      value = limited_goes _ c.args.channel c.args.c c.args.limits c.if-n-ge-CHANNELS.false c.credit_in-credit.result
-          (c.credit_in-credit.ensures ∙ credit-read c.args.s.now l c.args.channel c.number.result c.args.c c.if-n-ge-CHANNELS.false c.number.ensures)
-          c.update_answer.result c.update_answer.ensures c.if-update_answer-ne0.false _ stored.0;
-      s_len = stored.1;
-      keeps = made;
-    }
+    credit-back c.args.s.now l c.args.channel c.number.result c.args.c c.if-n-ge-CHANNELS.false c.number.ensures c.to_word.result _
+    (c.to_word.ensures.result_value ∙ c.updated.ensures) in
+    limited_goes _ c.args.channel c.args.c c.args.limits c.if-n-ge-CHANNELS.false c.from_word-credit.result
+    (c.from_word-credit.ensures ∙ credit-read c.args.s.now l c.args.channel c.number.result c.args.c c.if-n-ge-CHANNELS.false c.number.ensures)
+    0 c.in_ok-update_answer.ensures refl _ stored.0

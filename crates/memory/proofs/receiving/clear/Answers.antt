@@ -7,4 +7,4 @@ use Rattle.memory.proofs.receiving.clear.Goals as goal
 pub returns : goal.returns
 unfolding cleared
 returns c =
-    record { r_after = c.put_reply.ensures.r_after ∙ simp c.reply-x.ensures; r_len = c.put_reply.ensures.r_len }
+    record { r_after = c.put_reply.ensures.r_after ∙ simp c.reply.ensures; r_len = c.put_reply.ensures.r_len }

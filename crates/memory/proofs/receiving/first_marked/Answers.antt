@@ -1,22 +1,21 @@
--- `memory::receiving::first_marked` meets its contract: the invariant: what is found from slot i on is what is found from the front.
+-- `memory::receiving::first_marked` meets its contract: the first word that is marked is that of the first room that is.
 -- Assumes nothing.
-use native.Mathlib.Omega.{arith}
-use mathlib.Core.Path.{refl, sym, ◌∙◌}
+use Rattle.std.proofs.Common.{rules, tests, ◌∙◌}
+use Rattle.std.specs.Prelude.{◌≡◌, position}
+use Rattle.std.proofs.lemmas.Iterator.{YieldsList-from_slice}
+use Rattle.std.proofs.lemmas.Iterator.Search.{position_from_yields_List}
+use Rattle.basics.specs.Parts.{part}
 use Rattle.receiver.specs.Receiver.{is_marked}
-use Rattle.memory.proofs.ReceivingLaws.{marked-here, marked_next, marked-end}
+use Rattle.setup.specs.Setup.{per_end}
+use Rattle.words.specs.Words.{room_in}
+use Rattle.words.specs.Memory.{rooms_at, receiver_in}
+use Rattle.memory.proofs.ListsLaws.{position_mapped}
 use Rattle.memory.proofs.receiving.first_marked.Goals as goal
 
-pub loop-i-init : goal.loop-i-init
-loop-i-init c = (omega arith, refl)
-
-pub returns-then-is_marked : goal.returns-then-is_marked
-returns-then-is_marked c =
-    sym (c.loop-i.invariant.1 ∙ marked-here c.args.r.now (omega arith) c.loop-i.i (omega arith) (sym c.is_marked.ensures ∙ c.if-is_marked.true))
-
-pub loop-i-preserved : goal.loop-i-preserved
-loop-i-preserved c =
-    (omega arith, c.loop-i.invariant.1 ∙ marked_next c.args.r.now (omega arith) c.loop-i.i (omega arith) (sym c.is_marked.ensures ∙ c.if-is_marked.false))
-
 pub returns : goal.returns
+unfolding receiver_in
 returns c =
-    sym (c.loop-i.invariant.1 ∙ marked-end c.args.r.now (omega arith) c.loop-i.i (omega (arith, c.loop-i-test.false)))
+    let e : c.position.result ≡ position (λ w. is_marked (room_in w)) (part c.args.r.now rooms_at per_end) =
+    position_from_yields_List (λ w. is_marked (room_in w)) _ _ c.position.result c.position.ensures.ran (YieldsList-from_slice _ c.iter.ensures.rest)
+    (λ x b q k. search (rules, tests)) in
+    e ∙ position_mapped is_marked room_in (part c.args.r.now rooms_at per_end)

@@ -10,8 +10,8 @@ returns c =
     record {
       result_value = (
         c.word_at-w.ensures,
-        handed_all (receiver_in c.args.r.now) _ _ c.args.channel _ c.args.place c.args.c _ _ _ _ c.remove.ensures.r_after c.put_room.ensures.r_after c.slot_of-slot.ensures.value
-            (c.packet_in-p.ensures ∙ c.word_at-w.ensures) (c.room_in.ensures ∙ c.room.ensures) c.need.ensures c.give_back-grown.ensures,
+        handed_all (receiver_in c.args.r.now) _ _ c.args.channel _ c.args.place c.args.c _ _ _ _ c.remove.ensures.r_after c.put_room.ensures.r_after c.slot-slot.ensures.value
+            (c.from_word-p.ensures ∙ c.word_at-w.ensures) (c.from_word.ensures ∙ c.room.ensures) c.need.ensures c.give_back-grown.ensures,
       );
       r_len = c.put_room.ensures.r_len;
     }

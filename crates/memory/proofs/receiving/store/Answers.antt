@@ -10,7 +10,7 @@ pub returns : goal.returns
 returns c =
     record {
       r_after = stored-all (receiver_in c.args.r.now) _ _ _ c.args.channel _ (packet_in c.args.w) _ _ _ _ c.push.ensures.r_after c.put_room.ensures.r_after c.put_reply.ensures.r_after
-          (c.slot_of-slot.ensures.value ∙ simp (c.category.ensures, c.packet_in-p.ensures)) (c.room_in.ensures ∙ c.room.ensures)
-          (c.need.ensures ∙ simp c.packet_in-p.ensures) c.receive-grown.ensures (c.after_accepted-x.ensures ∙ simp c.reply.ensures);
+          (c.slot-slot.ensures.value ∙ simp (c.category.ensures, c.from_word-p.ensures)) (c.from_word.ensures ∙ c.room.ensures)
+          (c.need.ensures ∙ simp c.from_word-p.ensures) c.receive-grown.ensures (c.after_accepted-x.ensures ∙ simp c.reply.ensures);
       r_len = c.put_reply.ensures.r_len;
     }

@@ -1,14 +1,9 @@
 -- `memory::sending::new_packet` meets its contract. The invariant: no channel from c on has an eligible packet.
 -- Assumes nothing.
-use Prim.Native.Nat.{◌≤◌}
 use mathlib.Core.Path.{◌≡◌}
-use Rattle.setup.specs.Setup.{channels}
 use Rattle.sender.specs.Sources.{highest, new_of}
 use Rattle.words.specs.Memory.{sender_in}
 use Rattle.memory.proofs.sending.new_packet.Given as goal
 
 abbrev pub invariant-loop-c : goal.invariant-loop-c
-invariant-loop-c l = (l.c ≤ channels) × (new_of (sender_in l.s) ≡ highest (sender_in l.s) l.c)
-
-abbrev pub decreases-loop-c : goal.decreases-loop-c
-decreases-loop-c l = l.c
+invariant-loop-c l = new_of (sender_in l.s) ≡ highest (sender_in l.s) l.c

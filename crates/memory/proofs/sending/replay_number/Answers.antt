@@ -9,4 +9,4 @@ use Rattle.memory.proofs.sending.replay_number.Goals as goal
 pub returns : goal.returns
 unfolding sender_in
 returns c =
-    c.after.ensures ∙ ap (λ (x : Seq). after_of x c.args.i) (c.next.ensures ∙ ap next_of c.seq_in.ensures)
+    c.after.ensures ∙ ap (λ (x : Seq). after_of x c.args.i) (c.next.ensures ∙ ap next_of c.from_word.ensures)

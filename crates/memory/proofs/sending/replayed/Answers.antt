@@ -13,5 +13,5 @@ unfolding replayed
 returns c =
     let l : length c.args.s.now ≡ sender_words = omega arith in
     let both = replay-back c.args.s.now l c.write_replay.new.x _ c.write_replay.ensures.x_len
-    (c.write_replay.ensures.x_after ∙ replay_goes c.args.s.now l c.replay-running.result c.place_after-at.result c.args.i c.replay-running.ensures c.place_after-at.ensures) in
+    (c.write_replay.ensures.x_after ∙ replay_goes c.args.s.now l c.replay.result c.place_after.result c.args.i c.replay.ensures c.place_after.ensures) in
     record { s_after = both.0; s_len = both.1 }

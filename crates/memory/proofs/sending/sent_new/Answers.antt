@@ -25,4 +25,4 @@ returns c =
     buffer_back c.spend.new.s c.spend.ensures.s_len c.push.new.q _ c.push.ensures.q_len
     (c.push.ensures.q_after ∙ ap (λ (q : Packets). pushed q (packet_in c.new_word-w.result)) (buffer_read c.spend.new.s c.spend.ensures.s_len)) in
     let numbered =
-    next-back (put_mid buffer_at list_words c.spend.new.s c.push.new.q) entered.1 c.next.result (c.next.ensures ∙ ap next_of c.seq_in.ensures) in record { s_after = sent-steps _ c.args.channel c.args.place h _ _ _ _ _ c.new_word-w.ensures gone.0 c.spend.ensures.s_after entered.0 numbered.0; s_len = numbered.1 }
+    next-back (put_mid buffer_at list_words c.spend.new.s c.push.new.q) entered.1 c.to_word.result c.next.result c.to_word.ensures.result_value (c.next.ensures ∙ ap next_of c.from_word.ensures) in record { s_after = sent-steps _ c.args.channel c.args.place h _ _ _ _ _ c.new_word-w.ensures gone.0 c.spend.ensures.s_after entered.0 numbered.0; s_len = numbered.1 }

@@ -12,13 +12,13 @@ use Rattle.memory.proofs.sending.spend.Goals as goal
 pub returns : goal.returns
 returns c =
     let l : length c.args.s.now ≡ sender_words = omega arith in
-    let number : c.number.result ≡ number_of (category_of (packet_in c.args.w)) = c.number.ensures ∙ ap number_of (c.category.ensures ∙ ap category_of c.packet_in-p.ensures) in
-    let both = credit-back c.args.s.now l c.args.channel c.number.result (category_of (packet_in c.args.w)) (omega arith) number c.credit_word.result _
+    let number : c.number.result ≡ number_of (category_of (packet_in c.args.w)) = c.number.ensures ∙ ap number_of (c.category.ensures ∙ ap category_of c.from_word-p.ensures) in
+    let both = credit-back c.args.s.now l c.args.channel c.number.result (category_of (packet_in c.args.w)) (omega arith) number c.to_word.result _
     (
-    c.credit_word.ensures.result_value
-    ∙ c.spend-credit.ensures
+    c.to_word.ensures.result_value
+    ∙ c.spend.ensures
     ∙ spent-same _ _ _ _
-    (c.credit_in.ensures ∙ credit-read c.args.s.now l c.args.channel c.number.result (category_of (packet_in c.args.w)) (omega arith) number)
-    (c.need.ensures ∙ ap need_of c.packet_in-p.ensures)
+    (c.from_word.ensures ∙ credit-read c.args.s.now l c.args.channel c.number.result (category_of (packet_in c.args.w)) (omega arith) number)
+    (c.need.ensures ∙ ap need_of c.from_word-p.ensures)
     ) in
     record { s_after = both.0; s_len = both.1 }

@@ -4,12 +4,12 @@ use native.Mathlib.Omega.{arith}
 use Rattle.memory.proofs.SendingLaws.{place_at, place_none}
 use Rattle.memory.proofs.sending.write_place.Goals as goal
 
-pub returns-in-At : goal.returns-in-At
-returns-in-At c =
-    let both = place_at c.args.x.now (omega arith) _ _ c.in-At.is in
+pub returns-in-Some : goal.returns-in-Some
+returns-in-Some c =
+    let both = place_at c.args.x.now (omega arith) _ _ c.in-Some.is in
     record { x_after = both.0; x_len = both.1 }
 
-pub returns-in-Nothing : goal.returns-in-Nothing
-returns-in-Nothing c =
-    let both = place_none c.args.x.now (omega arith) _ c.in-Nothing.is in
+pub returns-in-None : goal.returns-in-None
+returns-in-None c =
+    let both = place_none c.args.x.now (omega arith) _ c.in-None.is in
     record { x_after = both.0; x_len = both.1 }

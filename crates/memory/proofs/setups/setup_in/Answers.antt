@@ -5,4 +5,4 @@ use Rattle.memory.proofs.setups.setup_in.Goals as goal
 
 pub returns : goal.returns
 unfolding setup_in
-returns c = rw (c.n_in-n.ensures, c.classes_in-classes.ensures, c.all_units-units.ensures)
+returns c = rw (c.n_in.ensures, c.all_in.ensures, c.all_in-2.ensures)

@@ -13,17 +13,17 @@ use Rattle.memory.proofs.stores.store_lists.Goals as goal
 
 pub loop-c-init : goal.loop-c-init
 unfolding cut
-loop-c-init c = (omega arith, omega arith, refl)
+loop-c-init c = (omega arith, refl)
 
 pub loop-c-preserved : goal.loop-c-preserved
 loop-c-preserved c =
     let long : length c.args.lists ≡ channels = search rules in
-    let back = part-back packets_in list_words c.loop-c.m c.args.lists c.loop-c.c c.loop-c.invariant.2 c.store_packets.new.q _
+    let back = part-back packets_in list_words c.loop-c.m c.args.lists c.loop-c.c c.loop-c.invariant.1 c.store_packets.new.q _
     c.store_packets.ensures.q_after c.store_packets.ensures.q_len (omega arith) (omega (arith, long)) in
-    (omega arith, back.0 ∙ c.loop-c.invariant.1, back.1)
+    (back.0 ∙ c.loop-c.invariant.0, back.1)
 
 pub returns : goal.returns
 returns c =
     let long : length c.args.lists ≡ channels = search rules in
-    let all : c.loop-c.c ≡ channels = omega arith in
-    record { m_after = rw (all, take_all channels c.args.lists (omega (arith, long))) at c.loop-c.invariant.2; m_len = omega arith }
+    let all : c.loop-c.c ≡ channels = omega (arith, long) in
+    record { m_after = rw (all, take_all channels c.args.lists (omega (arith, long))) at c.loop-c.invariant.1; m_len = omega arith }
