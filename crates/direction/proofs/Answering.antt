@@ -1,5 +1,6 @@
 -- The receiving half puts a link message on the line back, or marks its updates: the direction is kept. Frames of the other direction pass.
 -- Assumes nothing.
+use Rattle.std.specs.Prelude.{Some}
 use Prim.Native.Nat.{ℕ, ◌*◌, ◌%◌, ◌≤◌, ◌<◌}
 use mathlib.Core.Path.{◌≡◌, refl, ap, ◌∙◌}
 use mathlib.Core.Logic.{by_cases}
@@ -7,7 +8,6 @@ use mathlib.Core.Bool.{true}
 use mathlib.Core.List.{List, [], ◌∷◌, ◌++◌}
 use native.Mathlib.Decide.{ℕ_discrete}
 use native.Mathlib.Omega.{arith}
-use Rattle.basics.specs.declared.Found.TheVariants.{At}
 use Rattle.basics.proofs.Each.{by_order_lem}
 use Rattle.counters.specs.declared.Seq.{Seq}
 use Rattle.counters.specs.Wrapped.{minus}
@@ -58,7 +58,7 @@ module _ {link : Setup} {g : Past} {s : Sender} {forth back : List Slot} {r : Re
 
   -- ---- a marked update
 
-  module _ (k : ℕ) (first : first_marked r ≡ At k) where
+  module _ (k : ℕ) (first : first_marked r ≡ Some k) where
     below : k < per_end
     below = (first_marked_lem r i.r_arrays k first).0
 

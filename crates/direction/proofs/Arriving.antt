@@ -37,7 +37,7 @@ use Rattle.sender.proofs.Slots.{slot_below}
 use Rattle.receiver.specs.declared.Reply.{Reply}
 use Rattle.receiver.specs.declared.Receiver.{Receiver}
 use Rattle.receiver.specs.Receiver.{inbox_at, room_at, with_reply, after_duplicate, after_gap}
-use Rattle.delivery.specs.declared.Got.{Got}
+use Rattle.delivery.specs.Delivery.{Got}
 use Rattle.delivery.specs.Delivery.{got, stored, in_sequence, by_order, arrives, damaged}
 use Rattle.receipts.proofs.Arrays.{arrays_stored}
 use Rattle.receipts.proofs.Changes.{inbox-stored-other, room-stored-other, reply-stored, held-stored, len_stored, room-stored}

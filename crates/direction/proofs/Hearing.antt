@@ -1,6 +1,6 @@
 -- A link message that arrives at the sending half is accepted and keeps the direction; so does a frame that leaves the line back unheard.
 -- Here an Ack, a Nak, a replay's start and any message; an update alone stands in Limits. Assumes nothing.
-use Rattle.std.specs.Prelude.{if◌then◌else◌}
+use Rattle.std.specs.Prelude.{if◌then◌else◌, Some, None, Option, ℕ}
 use Prim.Native.Nat.{ℕ, ◌+◌, ◌-◌, ◌≤◌, ◌<◌}
 use mathlib.Core.Path.{◌≡◌, refl, sym, ap, ◌∙◌}
 use mathlib.Core.Logic.{◌≢◌}
@@ -11,8 +11,6 @@ use borrow.Author.Tests.{le-leb, eqb-false}
 use lib.Dec.{eqb}
 use lib.ListN.{length, drop}
 use lib.Seq.{drop-drop}
-use Rattle.basics.specs.declared.Found.{Found}
-use Rattle.basics.specs.declared.Found.TheVariants.{At, Nothing}
 use Rattle.basics.proofs.Branches.{by_test}
 use Rattle.basics.proofs.Finds.{place_of, apart}
 use Rattle.counters.specs.declared.Seq.{Seq}
@@ -103,18 +101,18 @@ module _ {link : Setup} {g : Past} {s : Sender} {forth back : List Slot} {r : Re
         len_acknowledged s i.s_arrays number enough bound ∙ omega (arith, releases_are, i.sending.buffer_len, m.low, high, i.numbers)
 
     -- a running replay's next packet is one of them
-    place-left : (j : ℕ) → (acknowledged s number).replay.at ≡ At j → j < (acknowledged s number).buffer.len
+    place-left : (j : ℕ) → (acknowledged s number).replay.at ≡ Some j → j < (acknowledged s number).buffer.len
     unfolding acknowledged
     place-left j e = go s.replay.at refl e
       where
         left : ℕ
         left = (acknowledged s number).buffer.len
 
-        go : (f : Found) → s.replay.at ≡ f → moved (releases s number) left f ≡ At j → j < left
-        go (At k) is e =
+        go : (f : Option ℕ) → s.replay.at ≡ f → moved (releases s number) left f ≡ Some j → j < left
+        go (Some k) is e =
             moved-within (releases s number) left k j
             (omega (arith, i.sending.replay_in_lem k is, enough, len_acknowledged s i.s_arrays number enough bound)) e
-        go Nothing is e = apart j e
+        go None is e = apart j e
 
     freed : Direction link (acking g m.v) (acknowledged s number) forth r back
     unfolding acknowledged

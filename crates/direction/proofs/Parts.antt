@@ -1,9 +1,9 @@
 -- A direction of which one part alone changes: the frames on its lines, the replay of its sending half, or the reply of its receiving half.
 -- Assumes nothing.
+use Rattle.std.specs.Prelude.{Some}
 use Prim.Native.Nat.{ℕ, ◌≤◌, ◌<◌}
 use mathlib.Core.Path.{◌≡◌, ◌∙◌}
 use mathlib.Core.List.{List}
-use Rattle.basics.specs.declared.Found.TheVariants.{At}
 use Rattle.line.specs.declared.Slot.{Slot}
 use Rattle.setup.specs.declared.Setup.{Setup}
 use Rattle.sender.specs.declared.Replay.{Replay}
@@ -37,7 +37,7 @@ module _ {link : Setup} {g : Past} {s : Sender} {forth back : List Slot} {r : Re
       }
 
   -- another replay, whose next packet is in the buffer
-  pub replay-keeps : (x : Replay) → ((k : ℕ) → x.at ≡ At k → k < s.buffer.len) → x.count ≤ 3 → Direction link g (with_replay s x) forth r back
+  pub replay-keeps : (x : Replay) → ((k : ℕ) → x.at ≡ Some k → k < s.buffer.len) → x.count ≤ 3 → Direction link g (with_replay s x) forth r back
   replay-keeps x inside few =
       record {
         s_arrays = arrays_replay s i.s_arrays x;

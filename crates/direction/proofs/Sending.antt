@@ -1,6 +1,7 @@
 -- Send keeps the direction, where the frame is a new packet, one of a replay, or a link message of the other direction.
 -- Of the choice of a new packet only three facts are used: it is the first of its category in its channel, its credits suffice, and it is
 -- posted or no posted packet stands before it. Assumes nothing.
+use Rattle.std.specs.Prelude.{Some, None}
 use Prim.Native.Nat.{ℕ, ◌+◌, ◌-◌, ◌%◌, ◌≤◌, ◌<◌}
 use mathlib.Core.Path.{◌≡◌, sym, ap, ◌∙◌}
 use mathlib.Core.Logic.{◌≢◌, by_cases}
@@ -14,7 +15,6 @@ use lib.Dec.{eqb}
 use lib.ListN.{length, get_or, take, drop, length-append}
 use lib.Seq.{get_or-drop, take-append-le, drop-append-le, get_or-append_seam}
 use Rattle.basics.specs.Lists.{all}
-use Rattle.basics.specs.declared.Found.TheVariants.{At, Nothing}
 use Rattle.basics.proofs.All.{all_snoc, all_without}
 use Rattle.basics.proofs.Filters.{count-without}
 use Rattle.basics.proofs.Finds.{apart}
@@ -35,7 +35,6 @@ use Rattle.setup.specs.declared.Setup.{Setup}
 use Rattle.setup.specs.Setup.{channels, per_end, in_range}
 use Rattle.sender.specs.declared.Sender.{Sender}
 use Rattle.sender.specs.declared.Replay.{Replay}
-use Rattle.sender.specs.declared.New.TheVariants as New
 use Rattle.sender.specs.Sender.{queue_at, credit_at}
 use Rattle.sender.specs.Sources.{replay_frame, replayed, new_of, new_packet, new_frame, sent_new}
 use Rattle.sender.proofs.Arrays.{arrays_sent}
@@ -57,7 +56,7 @@ use Rattle.traffic.proofs.Forth.{forth_grow, forth_sent, forth_other}
 module _ {link : Setup} {g : Past} {s : Sender} {forth back : List Slot} {r : Receiver} (ok : in_range link ≡ true) (i : Direction link g s forth r back) where
   -- ---- a new packet
 
-  module _ (channel place : ℕ) (new : new_of s ≡ New.At channel place) (rests : s.replay.at ≡ Nothing) where
+  module _ (channel place : ℕ) (new : new_of s ≡ Some (channel, place)) (rests : s.replay.at ≡ None) where
     abbrev it : Packet
     it = new_packet s channel place
 
@@ -217,7 +216,7 @@ module _ {link : Setup} {g : Past} {s : Sender} {forth back : List Slot} {r : Re
 -- ---- the next packet of a replay: it adds to no counter
 
 module _ {link : Setup} {g : Past} {s : Sender} {forth back : List Slot} {r : Receiver} (i : Direction link g s forth r back) where
-  pub again-keeps : (j : ℕ) → s.replay.at ≡ At j → Direction link g (replayed s j) (forth ++ (slot (replay_frame s j) ∷ [])) r back
+  pub again-keeps : (j : ℕ) → s.replay.at ≡ Some j → Direction link g (replayed s j) (forth ++ (slot (replay_frame s j) ∷ [])) r back
   unfolding replayed plus
   again-keeps j e =
       let inside : j < s.buffer.len = i.sending.replay_in_lem j e in

@@ -1,5 +1,6 @@
 -- An end whose two directions hold is in shape, rule by rule: answer 10 is never given.
 -- The end sends in the first direction and receives in the second. Assumes nothing.
+use Rattle.std.specs.Prelude.{Some, None, Option, ℕ}
 use Prim.Native.Nat.{ℕ, ◌+◌, ◌-◌, ◌*◌, ◌%◌, ◌<◌}
 use mathlib.Core.Path.{◌≡◌, refl, ap}
 use mathlib.Core.Bool.{true}
@@ -8,8 +9,6 @@ use native.Mathlib.Omega.{arith}
 use native.Mathlib.Nat.{zero-add}
 use borrow.Author.Tests.{le-leb, lt-ltb, eq-eqb}
 use lib.ListN.{length}
-use Rattle.basics.specs.declared.Found.{Found}
-use Rattle.basics.specs.declared.Found.TheVariants.{At, Nothing}
 use Rattle.basics.proofs.All.{all_drop, all_weaker}
 use Rattle.basics.proofs.Each.{by_bool}
 use Rattle.basics.proofs.Loops.{each_all}
@@ -100,9 +99,9 @@ module _ {link : Setup} {g : Past} {s : Sender} {forth back : List Slot} {r : Re
   unfolding replay_in
   replay_in_lem = go s.replay.at refl
     where
-      go : (at : Found) → s.replay.at ≡ at → place_in at s.buffer.len ≡ true
-      go (At k) e = lt-ltb k s.buffer.len (i.sending.replay_in_lem k e)
-      go Nothing e = refl
+      go : (at : Option ℕ) → s.replay.at ≡ at → place_in at s.buffer.len ≡ true
+      go (Some k) e = lt-ltb k s.buffer.len (i.sending.replay_in_lem k e)
+      go None e = refl
 
 -- ---- the half that receives
 

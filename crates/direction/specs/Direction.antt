@@ -1,9 +1,8 @@
 -- One direction of the link: a sending half, the line forth, the other end's receiving half and the line back, and how their wrapped numbers
 -- stand to a past in true numbers. `link` is the setup as the sending end sees it: the receiving end's units are its second half.
 -- Assumes nothing.
-use Rattle.std.specs.Prelude.{ℕ, suc, ◌+◌, ◌-◌, ◌*◌, ◌%◌, ◌≤◌, ◌<◌, ◌≡◌, Bool, true, ◌&&◌, List, [], ◌∷◌, ◌++◌, leb, eqb, length, get_or, take, drop}
+use Rattle.std.specs.Prelude.{ℕ, suc, ◌+◌, ◌-◌, ◌*◌, ◌%◌, ◌≤◌, ◌<◌, ◌≡◌, Bool, true, ◌&&◌, List, [], ◌∷◌, ◌++◌, leb, eqb, length, get_or, take, drop, Some}
 use Rattle.basics.specs.Lists.{all}
-use Rattle.basics.specs.declared.Found.TheVariants.{At}
 use Rattle.counters.specs.Counters.{seq}
 use Rattle.packets.specs.declared.Packet.{Packet}
 use Rattle.packets.specs.declared.Category.{Category}
@@ -88,7 +87,7 @@ pub record Sending (link : Setup) (accepted sent : List Packet) (acked : ℕ) (s
   pub acked_is : s.acked ≡ seq (up_to acked)
   pub buffer_is : held s.buffer ≡ drop acked sent
   pub buffer_len : s.buffer.len ≡ length sent - acked
-  pub replay_in_lem : (i : ℕ) → s.replay.at ≡ At i → i < s.buffer.len
+  pub replay_in_lem : (i : ℕ) → s.replay.at ≡ Some i → i < s.buffer.len
   pub count_fits : s.replay.count ≤ 3
   pub known : all (λ p. eqb (packet_answer p) 0) accepted ≡ true
   pub formed : all (λ p. eqb (packet_answer p) 0) sent ≡ true

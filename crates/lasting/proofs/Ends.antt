@@ -1,5 +1,6 @@
 -- A step of an end in shape leaves it in shape, and what it sends is in range.
 -- The arrays of both halves have their lengths, as every value of the code has. Assumes nothing else.
+use Rattle.std.specs.Prelude.{Some, None, Option}
 use Prim.Native.Nat.{ℕ}
 use mathlib.Core.Path.{◌≡◌, refl}
 use mathlib.Core.Bool.{true, ◌&&◌}
@@ -14,8 +15,6 @@ use Rattle.frames.specs.declared.Frame.TheVariants as Frame
 use Rattle.frames.specs.Frames as F
 use Rattle.frames.specs.Frames.{frame_answer, number_in_range}
 use Rattle.frames.proofs.Range.{answered}
-use Rattle.line.specs.declared.Front.{Front}
-use Rattle.line.specs.declared.Front.TheVariants as Front
 use Rattle.setup.specs.Setup.{channels, in_range}
 use Rattle.sender.specs.declared.Sender.{Sender}
 use Rattle.sender.specs.Sender.{queue_at}
@@ -25,8 +24,8 @@ use Rattle.receiver.specs.declared.Receiver.{Receiver}
 use Rattle.receiver.specs.Receiver.{inbox_at}
 use Rattle.receipts.proofs.Arrays as Receiving
 use Rattle.ends.specs.declared.End.{End}
-use Rattle.ends.specs.declared.Stepped.{Stepped}
-use Rattle.ends.specs.declared.Sent.{Sent}
+use Rattle.ends.specs.Ends.{Stepped}
+use Rattle.ends.specs.Sends.{Sent}
 use Rattle.ends.specs.Ends.{end, heard, submit_of, arrive_of, damage_of, take_at, timer_of, refresh_of}
 use Rattle.ends.specs.Sends.{send_of}
 use Rattle.shape.specs.Shape.{queue_bound, inbox_bound, within_bounds, all_on, in_place, all_formed, frames_fit, sent_fit, received_fit, numbers_fit, in_shape}
@@ -142,9 +141,9 @@ module _ {e : End} (h : Halves e) where
   sends (nothing o m r none) = stays
 
   -- the frame, if there is one, is in range
-  abbrev FrontFits : Front → Type 0
-  FrontFits (Front.Frame f) = frame_answer e.setup.n f ≡ 0
-  FrontFits Front.Nothing = Unit
+  abbrev FrontFits : Option Frame → Type 0
+  FrontFits (Some f) = frame_answer e.setup.n f ≡ 0
+  FrontFits None = Unit
 
   front_fits : {o : Sent} → Sends e o → FrontFits o.frame
   front_fits (a_nak o) = nak-in_range e.setup.n e.receiver.reply.next_receive
@@ -171,7 +170,7 @@ module _ {e : End} (sound : Sound e) where
   pub send_lasts : Lasts e (send_of e).end
   send_lasts = sends (halves sound) (send_view e)
 
-  pub sent_fits : (f : Frame) → (send_of e).frame ≡ Front.Frame f → frame_answer e.setup.n f ≡ 0
+  pub sent_fits : (f : Frame) → (send_of e).frame ≡ Some f → frame_answer e.setup.n f ≡ 0
   sent_fits f is = rw is at (front_fits (halves sound) (send_view e))
 
   pub arrive_lasts : (f : Frame) → Lasts e (arrive_of e f).end

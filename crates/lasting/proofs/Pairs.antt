@@ -1,7 +1,7 @@
 -- A step of a pair in shape leaves it in shape: the next step is not answered 10.
 -- There are two ends and two lines, the arrays have their lengths, and both ends use as many channels. Without the last it is false: an update of
 -- one end could name a channel that the other does not use. Assumes nothing else.
-use Rattle.std.specs.Prelude.{if◌then◌else◌}
+use Rattle.std.specs.Prelude.{if◌then◌else◌, Some, None, Option}
 use Prim.Native.Nat.{ℕ, zero, suc, ◌≤◌}
 use mathlib.Core.Path.{◌≡◌, refl, sym, ◌∙◌}
 use mathlib.Core.Bool.{true, false, ◌&&◌, not}
@@ -17,8 +17,6 @@ use Rattle.basics.proofs.Places.{stored-keeps}
 use Rattle.frames.specs.declared.Frame.{Frame}
 use Rattle.frames.specs.Frames.{frame_answer}
 use Rattle.line.specs.declared.Line.{Line}
-use Rattle.line.specs.declared.Front.{Front}
-use Rattle.line.specs.declared.Front.TheVariants as Front
 use Rattle.line.specs.Line.{capacity, empty, on_line, is_full, put, front_of, rest_of}
 use Rattle.line.proofs.OnLine.{not_full, on-put, len_put, length-put, len_rest, on-rest, length_rest}
 use Rattle.setup.specs.Setup.{blank_setup}
@@ -27,12 +25,12 @@ use Rattle.script.specs.Step.{formed}
 use Rattle.sender.proofs.Arrays as Sending
 use Rattle.receipts.proofs.Arrays as Receiving
 use Rattle.ends.specs.declared.End.{End}
-use Rattle.ends.specs.declared.Stepped.{Stepped}
+use Rattle.ends.specs.Ends.{Stepped}
 use Rattle.ends.specs.Ends.{end_of, submit_of, arrive_of, damage_of, take_at, timer_of, refresh_of}
 use Rattle.ends.specs.Sends.{send_of}
 use Rattle.shape.specs.Shape.{in_shape}
 use Rattle.pairs.specs.declared.Pair.{Pair}
-use Rattle.pairs.specs.declared.Done.{Done}
+use Rattle.pairs.specs.Pairs.{Done}
 use Rattle.pairs.specs.Pairs.{pair, done, end_at, line_at, other, by_end, carried, send_at, reached, on_front, reach_at, lose_at}
 use Rattle.pairs.specs.Steps.{packet_of, act, slot_fits, line_fits, pair_in_shape, step_of}
 use Rattle.lasting.proofs.Ends as E
@@ -168,16 +166,16 @@ module _ {p : Pair} (s : Sound p) (i : ℕ) (h : i ≤ 1) where
   unfolding by_end
   by_end_lem o k = end-stored s i o.end h k
 
-  carries : (x : Front) → (send_of (end_at p i)).frame ≡ x → Sound (carried p i (send_of (end_at p i)) x).pair
+  carries : (x : Option Frame) → (send_of (end_at p i)).frame ≡ x → Sound (carried p i (send_of (end_at p i)) x).pair
   unfolding end-stored
-  carries (Front.Frame f) is =
+  carries (Some f) is =
       let there : other i ≤ 1 = omega arith in
       let fit = sent_fits (s.end i h) f is in
       by_test After (is_full (line_at p (other i))) (λ t. s)
       (λ t.
       line-stored (end-stored s i _ h (send_lasts (s.end i h))) (other i) (put (line_at p (other i)) f)
       (put_sound (s.line (other i) there) f (rw (s.uses i h) at fit) t))
-  carries Front.Nothing is = s
+  carries None is = s
 
   send_sound : Sound (send_at p i).pair
   unfolding send_at
@@ -190,9 +188,9 @@ module _ {p : Pair} (s : Sound p) (i : ℕ) (h : i ≤ 1) where
       (λ t. line-stored (end-stored s i o.end h k) i (rest_of (line_at p i)) (rest_sound (s.line i h)))
       (λ t. s)
 
-  on_front_lem : (x : Front) (found : Frame → Done) → ((f : Frame) → Sound (found f).pair) → Sound (on_front p x found).pair
-  on_front_lem (Front.Frame f) found k = k f
-  on_front_lem Front.Nothing found k = s
+  on_front_lem : (x : Option Frame) (found : Frame → Done) → ((f : Frame) → Sound (found f).pair) → Sound (on_front p x found).pair
+  on_front_lem (Some f) found k = k f
+  on_front_lem None found k = s
 
   reach_sound : (step : End → Frame → Stepped) → ((f : Frame) → Lasts (end_at p i) (step (end_at p i) f).end) → Sound (reach_at step p i).pair
   unfolding reach_at

@@ -1,5 +1,6 @@
 -- A packet that comes or goes keeps the receiving half's part of the shape: free room and the units waiting still add up, and the 48 places suffice.
 -- And what the half says is in range. The setup is in range where that is said. Assumes nothing else.
+use Rattle.std.specs.Prelude.{Some, None, Option, ℕ}
 use Prim.Native.Nat.{ℕ, ◌+◌, ◌*◌, ◌/◌, ◌≤◌, ◌<◌}
 use mathlib.Core.Path.{◌≡◌, refl}
 use mathlib.Core.Logic.{◌≢◌, by_cases}
@@ -11,8 +12,6 @@ use borrow.Author.Tests.{lt-ltb, ltb-true, le-leb, leb-true, leb-false, eq-eqb, 
 use lib.Dec.{leb, eqb}
 use lib.ListN.{length, take, drop}
 use Rattle.basics.specs.Lists.{all, find}
-use Rattle.basics.specs.declared.Found.{Found}
-use Rattle.basics.specs.declared.Found.TheVariants.{At, Nothing}
 use Rattle.basics.proofs.All.{all_snoc, all_without}
 use Rattle.basics.proofs.Branches.{by_test, and_left, and_right}
 use Rattle.basics.proofs.Each.{by_bool}
@@ -30,8 +29,6 @@ use Rattle.credits.specs.Credits.{free_of, room_answer, received, given_back}
 use Rattle.packets.specs.declared.Packet.{Packet}
 use Rattle.packets.specs.declared.Category.{Category}
 use Rattle.packets.specs.declared.Category.TheVariants.{Posted, NonPosted, Completion}
-use Rattle.packets.specs.declared.Numbered.{Numbered}
-use Rattle.packets.specs.declared.Numbered.TheVariants as Numbered
 use Rattle.packets.specs.Packets.{number_of, numbered, same, category_of, slot_of, packet_answer, data_together, need_of}
 use Rattle.packets.proofs.Numbers.{number_below}
 use Rattle.frames.specs.declared.Frame.TheVariants as Frame
@@ -48,7 +45,7 @@ use Rattle.setup.proofs.Range.{units_fit_lem, fit_small}
 use Rattle.sender.proofs.Slots.{slot_below, slot_channel}
 use Rattle.receiver.specs.declared.Receiver.{Receiver}
 use Rattle.receiver.specs.Receiver.{inbox_at, room_at, after_duplicate, after_gap, first_marked, update_frame}
-use Rattle.delivery.specs.declared.Got.{Got}
+use Rattle.delivery.specs.Delivery.{Got}
 use Rattle.delivery.specs.Delivery.{stored, in_sequence, by_order, arrives, handed_out, is_before, taken_at, taken_by, take_of}
 use Rattle.receipts.proofs.Arrays.{Arrays, arrays_stored, arrays_handed}
 use Rattle.receipts.proofs.Changes.{inbox-stored-other, room-stored-other, reply-stored, held-stored, len_stored, room-stored, inbox_handed_other, room_handed_other, reply_handed, held_handed, len_handed, room_handed}
@@ -192,7 +189,7 @@ module _ {link : Setup} {r : Receiver} (ok : in_range link ≡ true) (k : Receiv
 
   -- ---- a packet goes: the first of its category
 
-  module _ (c : Category) (place : ℕ) (used : channel < link.n) (found : find (is_of c) waiting 0 ≡ At place) where
+  module _ (c : Category) (place : ℕ) (used : channel < link.n) (found : find (is_of c) waiting 0 ≡ Some place) where
     abbrev it : Packet
     it = at (inbox_at r channel) place
 
@@ -266,16 +263,16 @@ module _ {link : Setup} {r : Receiver} (ok : in_range link ≡ true) (k : Receiv
   arrives_kept number p rules = order_kept p rules (order_of r.reply.next_receive number)
 
   module _ (channel : ℕ) (used : channel < link.n) (here : channel < channels) where
-    found_kept : (c : Category) (f : Found) → find (is_of c) (held (inbox_at r channel)) 0 ≡ f → Keeps (taken_at r channel c f)
+    found_kept : (c : Category) (f : Option ℕ) → find (is_of c) (held (inbox_at r channel)) 0 ≡ f → Keeps (taken_at r channel c f)
     unfolding taken_at
-    found_kept c Nothing e = k
-    found_kept c (At place) e =
+    found_kept c None e = k
+    found_kept c (Some place) e =
         by_test Keeps (is_before (find (is_of Posted) (held (inbox_at r channel)) 0) place) (λ t. k)
         (λ t. handed_kept ok k channel here c place used e)
 
-    taken_kept : (x : Numbered) → Keeps (taken_by r channel x)
-    taken_kept (Numbered.Category c) = found_kept c (find (is_of c) (held (inbox_at r channel)) 0) refl
-    taken_kept Numbered.Nothing = k
+    taken_kept : (x : Option Category) → Keeps (taken_by r channel x)
+    taken_kept (Some c) = found_kept c (find (is_of c) (held (inbox_at r channel)) 0) refl
+    taken_kept None = k
 
   pub take_kept : (channel category : ℕ) → ReceivingKept link (take_of r link.n channel category).receiver
   unfolding take_of
@@ -302,7 +299,7 @@ module _ (n : ℕ) (next : Seq) where
 mark_below : (n slot : ℕ) (m : Room) → m.marked ≡ true → mark_in_use n slot m ≡ true → slot < 3 * n
 mark_below n slot m e h = ltb-true slot (3 * n) (rw e at h)
 
-pub update_in_range_lem : {link : Setup} {r : Receiver} → ReceivingKept link r → (i : ℕ) → first_marked r ≡ At i
+pub update_in_range_lem : {link : Setup} {r : Receiver} → ReceivingKept link r → (i : ℕ) → first_marked r ≡ Some i
     → frame_answer link.n (update_frame r i) ≡ 0
 unfolding F.in_range update_frame
 update_in_range_lem {link} {r} k i found =

@@ -1,5 +1,6 @@
 -- The sending half's part of the shape of an end: its rules one by one.
 -- The arrays have their lengths (`Arrays`), as every value of the code has. Assumes nothing else.
+use Rattle.std.specs.Prelude.{Some, None, Option, ℕ}
 use Prim.Native.Nat.{ℕ, ◌+◌, ◌%◌, ◌<◌, ◌≤◌}
 use mathlib.Core.Path.{◌≡◌, refl}
 use mathlib.Core.Bool.{Bool, true, ◌&&◌}
@@ -7,8 +8,6 @@ use native.Mathlib.Omega.{arith}
 use lib.Dec.{leb, ltb}
 use lib.ListN.{length}
 use Rattle.basics.specs.Lists.{all}
-use Rattle.basics.specs.declared.Found.{Found}
-use Rattle.basics.specs.declared.Found.TheVariants.{At, Nothing}
 use Rattle.basics.proofs.Branches.{and_left, and_right}
 use Rattle.counters.specs.Wrapped.{plus}
 use Rattle.counters.specs.Counters.{data_range, seq_range}
@@ -54,7 +53,7 @@ pub record SendingKept (link : Setup) (s : Sender) : Type 0 where
   pub acked_fits : s.acked.0 < seq_range
   pub count_fits : s.replay.count ≤ 3
   pub run : (s.acked.0 + 1 + s.buffer.len) % seq_range ≡ s.next.0
-  pub replay_in_lem : (i : ℕ) → s.replay.at ≡ At i → i < s.buffer.len
+  pub replay_in_lem : (i : ℕ) → s.replay.at ≡ Some i → i < s.buffer.len
 
 -- ---- from the rules of the shape
 
@@ -155,6 +154,6 @@ module _ {link : Setup} {s : Sender} (k : SendingKept link s) where
   unfolding replay_in
   replay_inside = go s.replay.at refl
     where
-      go : (at : Found) → s.replay.at ≡ at → place_in at s.buffer.len ≡ true
-      go (At i) e = lt-ltb i s.buffer.len (k.replay_in_lem i e)
-      go Nothing e = refl
+      go : (at : Option ℕ) → s.replay.at ≡ at → place_in at s.buffer.len ≡ true
+      go (Some i) e = lt-ltb i s.buffer.len (k.replay_in_lem i e)
+      go None e = refl

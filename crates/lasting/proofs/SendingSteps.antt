@@ -1,5 +1,6 @@
 -- Each change of the sending half keeps its part of the shape, and the frames that it sends are in range.
 -- Assumes nothing.
+use Rattle.std.specs.Prelude.{Some, None, Option, ℕ}
 use Prim.Native.Nat.{ℕ, ◌+◌, ◌%◌, ◌<◌, ◌≤◌}
 use mathlib.Core.Path.{◌≡◌, refl, sym, ap, ◌∙◌}
 use mathlib.Core.Bool.{Bool, true, false, ◌&&◌}
@@ -11,8 +12,6 @@ use borrow.Author.Tests.{le-ltb, lt-ltb, ltb-true, eq-eqb, eqb-true, eqb-false}
 use lib.Dec.{ltb, eqb}
 use lib.ListN.{length, set, get_or, length-append, length-set}
 use lib.Seq.{get_or-set_same, get_or-set_other}
-use Rattle.basics.specs.declared.Found.{Found}
-use Rattle.basics.specs.declared.Found.TheVariants.{At, Nothing}
 use Rattle.basics.proofs.All.{all_snoc, all_drop, all_without, all-at}
 use Rattle.basics.proofs.Branches.{by_test, and_left, and_right}
 use Rattle.basics.proofs.Each.{by_bool, by_order_lem}
@@ -43,9 +42,7 @@ use Rattle.setup.specs.declared.Setup.{Setup}
 use Rattle.setup.specs.Setup.{channels, per_end, channel_of}
 use Rattle.sender.specs.declared.Replay.{Replay}
 use Rattle.sender.specs.declared.Sender.{Sender}
-use Rattle.sender.specs.declared.Told.{Told}
-use Rattle.sender.specs.declared.New.{New}
-use Rattle.sender.specs.declared.New.TheVariants as New
+use Rattle.sender.specs.Sender.{Told}
 use Rattle.sender.specs.Sender.{queue_at, credit_at, with_replay, submitted, begun, timer_of}
 use Rattle.sender.specs.Sources.{replay_frame, replayed, new_of, new_packet, new_frame, sent_new}
 use Rattle.sender.proofs.Arrays.{arrays_submitted, arrays_replay, arrays_sent}
@@ -134,7 +131,7 @@ module _ {link : Setup} {s : Sender} (k : SendingKept link s) where
 
   -- ---- a replay
 
-  replay_kept : (x : Replay) → x.count ≤ 3 → ((i : ℕ) → x.at ≡ At i → i < s.buffer.len) → SendingKept link (with_replay s x)
+  replay_kept : (x : Replay) → x.count ≤ 3 → ((i : ℕ) → x.at ≡ Some i → i < s.buffer.len) → SendingKept link (with_replay s x)
   replay_kept x few inside =
       record {
         arrays = arrays_replay s k.arrays x;
@@ -165,7 +162,7 @@ module _ {link : Setup} {s : Sender} (k : SendingKept link s) where
 
   -- ---- a new packet
 
-  module _ (channel place : ℕ) (new : new_of s ≡ New.At channel place) where
+  module _ (channel place : ℕ) (new : new_of s ≡ Some (channel, place)) where
     abbrev it : Packet
     it = new_packet s channel place
 
@@ -216,7 +213,7 @@ module _ {link : Setup} {s : Sender} (k : SendingKept link s) where
     unfolding F.in_range
     new_frame_fits n = rw (lt-ltb s.next.0 seq_range k.next_fits, it_formed)
 
-  pub replay_frame_fits : (n i : ℕ) → s.replay.at ≡ At i → frame_answer n (replay_frame s i) ≡ 0
+  pub replay_frame_fits : (n i : ℕ) → s.replay.at ≡ Some i → frame_answer n (replay_frame s i) ≡ 0
   unfolding F.in_range plus
   replay_frame_fits n i e =
       let inside : i < length (held s.buffer) =
@@ -231,9 +228,9 @@ module _ {link : Setup} {s : Sender} (k : SendingKept link s) where
     gone = W.releases s number
 
     -- a running replay's next packet is one of those left
-    moved_in : (left : ℕ) → left + gone ≡ s.buffer.len → (x : Found) → s.replay.at ≡ x → (i : ℕ) → W.moved gone left x ≡ At i → i < left
-    moved_in left all_of (At j) at i e = D.moved-within gone left j i (omega (arith, k.replay_in_lem j at)) e
-    moved_in left all_of Nothing at i e = apart i e
+    moved_in : (left : ℕ) → left + gone ≡ s.buffer.len → (x : Option ℕ) → s.replay.at ≡ x → (i : ℕ) → W.moved gone left x ≡ Some i → i < left
+    moved_in left all_of (Some j) at i e = D.moved-within gone left j i (omega (arith, k.replay_in_lem j at)) e
+    moved_in left all_of None at i e = apart i e
 
     pub acknowledged_kept : SendingKept link (W.acknowledged s number)
     unfolding W.acknowledged

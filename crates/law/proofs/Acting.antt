@@ -1,5 +1,6 @@
 -- Submit, Take, Timer and Refresh at one end keep both directions. Submit's packet is accepted, Take's is the oldest of its category.
 -- Assumes nothing.
+use Rattle.std.specs.Prelude.{Some, None}
 use Prim.Native.Nat.{ℕ, ◌<◌, ◌≤◌}
 use mathlib.Core.Path.{◌≡◌, refl, sym}
 use mathlib.Core.Logic.{◌⊎◌, ◌≢◌}
@@ -12,7 +13,6 @@ use Rattle.basics.proofs.Filters.{filter_first}
 use Rattle.packets.specs.declared.Packet.{Packet}
 use Rattle.packets.specs.declared.Category.{Category}
 use Rattle.packets.specs.declared.Category.TheVariants.{Posted, NonPosted, Completion}
-use Rattle.packets.specs.declared.Numbered.TheVariants as Numbered
 use Rattle.packets.specs.Packets.{number_of, numbered, category_of, packet_answer, data_units}
 use Rattle.store.specs.Store.{held, at, no_packet, is_of, of_category}
 use Rattle.line.specs.declared.Line.{Line}
@@ -53,7 +53,7 @@ module _ {near far : Setup} {out back : Past} {me it : End} {to from : Line} (b 
 
   -- ---- Take: the packet at its place is the oldest of its category
 
-  numbered_is : (c : Category) → numbered (number_of c) ≡ Numbered.Category c
+  numbered_is : (c : Category) → numbered (number_of c) ≡ Some c
   numbered_is Posted = refl
   numbered_is NonPosted = refl
   numbered_is Completion = refl

@@ -17,11 +17,11 @@ use Rattle.packets.specs.Packets.{number_of, numbered}
 use Rattle.store.specs.Store.{held, no_packet, is_of, of_category}
 use Rattle.receiver.specs.Receiver.{inbox_at}
 use Rattle.ends.specs.declared.End.{End}
-use Rattle.ends.specs.declared.Stepped.{Stepped}
+use Rattle.ends.specs.Ends.{Stepped}
 use Rattle.script.specs.declared.Step.{Step}
 use Rattle.script.specs.Step.{is_take, formed}
 use Rattle.pairs.specs.declared.Pair.{Pair}
-use Rattle.pairs.specs.declared.Done.{Done}
+use Rattle.pairs.specs.Pairs.{Done}
 use Rattle.pairs.specs.Pairs.{end_at, by_end}
 use Rattle.pairs.specs.Steps.{pair_in_shape, step_of}
 use Rattle.pairs.proofs.Acts.{takes}

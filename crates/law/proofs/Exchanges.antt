@@ -1,5 +1,6 @@
 -- Exchanges of a quiet round. A half exchange from end i is Send i, then Arrive at the other end; an exchange is one from end 0, then one from end 1.
 -- Assumes nothing.
+use Rattle.std.specs.Prelude.{Some, None}
 use Prim.Native.Nat.{ℕ, zero, suc, pred, ◌+◌, ◌-◌, ◌<◌, ◌≤◌}
 use mathlib.Core.Path.{◌≡◌, refl, sym, ap, subst, ◌∙◌}
 use mathlib.Core.Logic.{◌≢◌, ◌⊎◌, inl, inr, ⊎_elim, by_cases}
@@ -12,7 +13,6 @@ use borrow.Author.Tests.{leb-true}
 use lib.Dec.{leb}
 use lib.ListN.{length, take}
 use Rattle.packets.specs.declared.Packet.{Packet}
-use Rattle.line.specs.declared.Front.TheVariants as Front
 use Rattle.line.specs.Line.{on_line, is_full}
 use Rattle.line.proofs.OnLine.{length-on}
 use Rattle.setup.specs.declared.Setup.{Setup}
@@ -34,7 +34,7 @@ half p i = did (did p 2 i) 3 (other i)
 
 -- nothing moves: end i has nothing to send and nothing is on the line from it
 pub record Still (p : Pair) (i : ℕ) : Type 0 where
-  pub nothing : (send_of (end_at p i)).frame ≡ Front.Nothing
+  pub nothing : (send_of (end_at p i)).frame ≡ None
   pub owes_none : (end_at p i).receiver.reply.owed ≡ Owed.Nothing
   pub empty : (line_at p (other i)).len ≡ 0
 

@@ -1,5 +1,5 @@
 -- Send and Arrive of the pair within a quiet round, seen from the end that acts. Assumes nothing.
-use Rattle.std.specs.Prelude.{if◌then◌else◌}
+use Rattle.std.specs.Prelude.{if◌then◌else◌, Some, None, Option}
 use Prim.Native.Nat.{ℕ, zero, suc, pred, ◌+◌, ◌-◌, ◌<◌, ◌≤◌}
 use mathlib.Core.Path.{◌≡◌, refl, sym, ap, subst, ◌∙◌}
 use mathlib.Core.Logic.{◌≢◌, by_cases}
@@ -15,21 +15,19 @@ use Rattle.basics.proofs.Branches.{by_test}
 use Rattle.packets.specs.declared.Packet.{Packet}
 use Rattle.frames.specs.declared.Frame.{Frame}
 use Rattle.line.specs.declared.Line.{Line}
-use Rattle.line.specs.declared.Front.{Front}
-use Rattle.line.specs.declared.Front.TheVariants as Front
 use Rattle.line.specs.Line.{slot, empty, on_line, is_full, put, front_of, rest_of}
 use Rattle.line.proofs.OnLine.{on-put, len_put, not_full, front-nothing, len_rest, length-on}
 use Rattle.setup.specs.declared.Setup.{Setup}
 use Rattle.setup.specs.Setup.{blank_setup}
 use Rattle.receiver.specs.declared.Owed.TheVariants as Owed
 use Rattle.ends.specs.declared.End.{End}
-use Rattle.ends.specs.declared.Stepped.{Stepped}
-use Rattle.ends.specs.declared.Sent.{Sent}
+use Rattle.ends.specs.Ends.{Stepped}
+use Rattle.ends.specs.Sends.{Sent}
 use Rattle.ends.specs.Ends.{end_of, arrive_of}
 use Rattle.ends.specs.Sends.{send_of}
 use Rattle.script.specs.Step.{form_by, formed, fields_fit}
 use Rattle.pairs.specs.declared.Pair.{Pair}
-use Rattle.pairs.specs.declared.Done.{Done}
+use Rattle.pairs.specs.Pairs.{Done}
 use Rattle.pairs.specs.Pairs.{pair, done, end_at, line_at, other, carried, send_at, reached, on_front, reach_at}
 use Rattle.pairs.specs.Steps.{act, pair_in_shape, step_of}
 use Rattle.rounds.specs.Rounds.{plain, did}
@@ -120,7 +118,7 @@ pub record Went (near far : Setup) (a u b v : List Packet) (n m : ℕ) (p : Pair
   pub calm : (k : ℕ) → (end_at p i).receiver.reply.owed ≢ Owed.Nak → Calm k (on_line (line_at p (other i))) → Calm k (on_line (line_at p' (other i)))
 
 pub data Sending (near far : Setup) (a u b v : List Packet) (n m : ℕ) (p : Pair) (i : ℕ) : Pair → Type 0 where
-  none_applies : (send_of (end_at p i)).frame ≡ Front.Nothing → (end_at p i).receiver.reply.owed ≡ Owed.Nothing → Sending near far a u b v n m p i p
+  none_applies : (send_of (end_at p i)).frame ≡ None → (end_at p i).receiver.reply.owed ≡ Owed.Nothing → Sending near far a u b v n m p i p
   line_full : is_full (line_at p (other i)) ≡ true → Sending near far a u b v n m p i p
   it_went : {p' : Pair} → Went near far a u b v n m p i p' → Sending near far a u b v n m p i p'
 
@@ -174,14 +172,14 @@ module _ {near far : Setup} {a u b v : List Packet} {n m : ℕ} {p : Pair} {i : 
           calm = λ k z c. rw (line-there, on-more) (left.calm k z c);
         }
 
-  sending : (x : Sent) → Sends (end_at p i) x → (f : Front) → x.frame ≡ f → send_of (end_at p i) ≡ x → Sending near far a u b v n m p i (carried p i x f).pair
-  sending x s (Front.Frame f) e z =
+  sending : (x : Sent) → Sends (end_at p i) x → (f : Option Frame) → x.frame ≡ f → send_of (end_at p i) ≡ x → Sending near far a u b v n m p i (carried p i x f).pair
+  sending x s (Some f) e z =
       by_test (λ (d : Done). Sending near far a u b v n m p i d.pair) (is_full (line_at p (other i)))
       (λ t. line_full t)
       (λ t. it_went (went x.end f t (send_turn w.turn t s f e)))
-  sending x s Front.Nothing e z = none_applies (ap (λ (y : Sent). y.frame) z ∙ e) (owes s e)
+  sending x s None e z = none_applies (ap (λ (y : Sent). y.frame) z ∙ e) (owes s e)
     where
-      owes : {y : Sent} → Sends (end_at p i) y → y.frame ≡ Front.Nothing → (end_at p i).receiver.reply.owed ≡ Owed.Nothing
+      owes : {y : Sent} → Sends (end_at p i) y → y.frame ≡ None → (end_at p i).receiver.reply.owed ≡ Owed.Nothing
       owes (a_nak owed) e = let z : ◌≡◌ {A = ℕ} 0 1 = cc in absurd (omega arith)
       owes (an_ack owed) e = let z : ◌≡◌ {A = ℕ} 0 1 = cc in absurd (omega arith)
       owes (an_update k none first) e = none
@@ -209,7 +207,7 @@ pub data Arriving (near far : Setup) (a u b v : List Packet) (n m : ℕ) (p : Pa
   it_came : {p' : Pair} → Came near far a u b v n m p i p' → Arriving near far a u b v n m p i p'
 
 module _ {near far : Setup} {a u b v : List Packet} {n m : ℕ} {p : Pair} {i : ℕ} (h : i < 2) (w : View near far a u b v n m p i) where
-  module _ (f : Frame) (front : front_of (line_at p i) ≡ Front.Frame f) (x : Stepped)
+  module _ (f : Frame) (front : front_of (line_at p i) ≡ Some f) (x : Stepped)
       (entered : Entered n m near far w.out w.back (end_at p i) (end_at p (other i)) (line_at p i) (line_at p (other i)) x) where
     abbrev rest : Line
     rest = rest_of (line_at p i)
@@ -262,10 +260,10 @@ module _ {near far : Setup} {a u b v : List Packet} {n m : ℕ} {p : Pair} {i : 
     unfolding reached
     arrived = rw (eq-eqb x.answer 0 entered.says) (it_came came)
 
-  arriving : (x : Front) → front_of (line_at p i) ≡ x → Arriving near far a u b v n m p i (on_front p x (λ f. reached p i (arrive_of (end_at p i) f))).pair
-  arriving Front.Nothing e =
+  arriving : (x : Option Frame) → front_of (line_at p i) ≡ x → Arriving near far a u b v n m p i (on_front p x (λ f. reached p i (arrive_of (end_at p i) f))).pair
+  arriving None e =
       line_empty (omega (arith, ap length (front-nothing (line_at p i) w.turn.both.to_fits.long e), length-on (line_at p i) w.turn.both.to_fits.long w.turn.both.to_fits.room))
-  arriving (Front.Frame f) e = arrived f e (arrive_of (end_at p i) f) (arrive_turn w.turn f e)
+  arriving (Some f) e = arrived f e (arrive_of (end_at p i) f) (arrive_turn w.turn f e)
 
   pub arrive_moves : Arriving near far a u b v n m p i (did p 3 i)
   unfolding reach_at

@@ -21,7 +21,7 @@ use Rattle.line.proofs.OnLine.{length-on}
 use Rattle.setup.specs.declared.Setup.{Setup}
 use Rattle.setup.specs.Setup.{blank_setup, in_range}
 use Rattle.sender.specs.declared.Sender.{Sender}
-use Rattle.sender.specs.declared.Told.{Told}
+use Rattle.sender.specs.Sender.{Told}
 use Rattle.sender.specs.Sender as S
 use Rattle.receiver.specs.declared.Receiver.{Receiver}
 use Rattle.receiver.specs.Receiver as R
@@ -29,7 +29,7 @@ use Rattle.ends.specs.declared.End.{End}
 use Rattle.ends.specs.Ends.{end, end_of, timer_of, refresh_of}
 use Rattle.script.specs.Step.{form_by, formed, fields_fit}
 use Rattle.pairs.specs.declared.Pair.{Pair}
-use Rattle.pairs.specs.declared.Done.{Done}
+use Rattle.pairs.specs.Pairs.{Done}
 use Rattle.pairs.specs.Pairs.{pair, end_at, line_at, other, by_end}
 use Rattle.pairs.specs.Steps.{act, pair_in_shape, step_of}
 use Rattle.rounds.specs.Rounds.{plain, did, opening}

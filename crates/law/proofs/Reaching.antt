@@ -1,5 +1,6 @@
 -- The oldest frame on the line reaches the end whole or damaged, or is lost: it is never refused, and both directions are kept.
 -- Assumes nothing.
+use Rattle.std.specs.Prelude.{Some, None}
 use Prim.Native.Nat.{◌<◌}
 use mathlib.Core.Path.{◌≡◌, refl, ap, ◌∙◌}
 use mathlib.Core.List.{[], ◌∷◌}
@@ -15,16 +16,14 @@ use Rattle.frames.specs.declared.Frame.TheVariants as Frame
 use Rattle.frames.specs.declared.Message.{Message}
 use Rattle.frames.specs.Frames.{frame_answer}
 use Rattle.line.specs.declared.Line.{Line}
-use Rattle.line.specs.declared.Front.{Front}
-use Rattle.line.specs.declared.Front.TheVariants as Front
 use Rattle.line.specs.Line.{slot, on_line, front_of, rest_of}
 use Rattle.line.proofs.OnLine.{front-found, length_rest, len_rest, length-on}
 use Rattle.setup.specs.declared.Setup.{Setup}
-use Rattle.delivery.specs.declared.Got.{Got}
+use Rattle.delivery.specs.Delivery.{Got}
 use Rattle.sender.specs.declared.Sender.{Sender}
 use Rattle.receiver.specs.declared.Receiver.{Receiver}
 use Rattle.ends.specs.declared.End.{End}
-use Rattle.ends.specs.declared.Stepped.{Stepped}
+use Rattle.ends.specs.Ends.{Stepped}
 use Rattle.ends.specs.Ends.{end, arrive_of, damage_of, heard}
 use Rattle.pairs.specs.Steps.{line_fits, slot_fits}
 use Rattle.traffic.proofs.Range.{frame_fits}
@@ -34,7 +33,7 @@ use Rattle.direction.proofs.Hearing.{back_gone, hearing, message_heard}
 use Rattle.direction.proofs.Shaped.{channel_same}
 use Rattle.law.proofs.Both.{Both, Fitting, both-with, Next, nothing_new, line_fits_lem}
 
-module _ {near far : Setup} {out back : Past} {me it : End} {to from : Line} (b : Both near far out back me it to from) (f : Frame) (front : front_of to ≡ Front.Frame f) where
+module _ {near far : Setup} {out back : Past} {me it : End} {to from : Line} (b : Both near far out back me it to from) (f : Frame) (front : front_of to ≡ Some f) where
   pub on_to : on_line to ≡ slot f ∷ on_line (rest_of to)
   on_to = front-found to b.to_fits.long f b.to_fits.room front
 
@@ -81,7 +80,7 @@ module _ {near far : Setup} {out back : Past} {me it : End} {to from : Line} (b 
 -- ---- Damage: a packet may make a Nak owed, a link message is dropped
 
 module _ {near far : Setup} {out back : Past} {me it : End} {to from : Line} (b : Both near far out back me it to from) where
-  pub damage-next : (f : Frame) (front : front_of to ≡ Front.Frame f) → Reached b f front (damage_of me f)
+  pub damage-next : (f : Frame) (front : front_of to ≡ Some f) → Reached b f front (damage_of me f)
   unfolding damage_of
   damage-next (Frame.Packet number p) front =
       record { says = refl; next = received b (Frame.Packet number p) front back _ refl refl (damage-keeps (receives b (Frame.Packet number p) front)) }
@@ -90,13 +89,13 @@ module _ {near far : Setup} {out back : Past} {me it : End} {to from : Line} (b 
   -- ---- Arrive
 
   -- 27 refuses no frame on the line
-  pub frame_in_range : (f : Frame) → front_of to ≡ Front.Frame f → frame_answer me.setup.n f ≡ 0
+  pub frame_in_range : (f : Frame) → front_of to ≡ Some f → frame_answer me.setup.n f ≡ 0
   unfolding line_fits
   frame_in_range f front =
       frame_fits me.setup.n f (on_line (rest_of to))
       (rw (on_to b f front) at (and_right (leb to.len 16) (all (slot_fits me.setup.n) (on_line to)) (line_fits_lem b)))
 
-  arrives_whole : (f : Frame) (front : front_of to ≡ Front.Frame f) → Reached b f front (heard me f)
+  arrives_whole : (f : Frame) (front : front_of to ≡ Some f) → Reached b f front (heard me f)
   arrives_whole (Frame.Packet number p) front =
       rw (← channel_same b.facing p.class)
       (by_number (arrive_view b.facing.there (receives b (Frame.Packet number p) front)))
@@ -113,6 +112,6 @@ module _ {near far : Setup} {out back : Past} {me it : End} {to from : Line} (b 
         next = reached_by b (Frame.Message m) front (hearing out h.acked h.limit) back _ _ refl refl refl refl h.keeps (lose_keeps (receives b (Frame.Message m) front));
       }
 
-  pub arrive-next : (f : Frame) (front : front_of to ≡ Front.Frame f) → Reached b f front (arrive_of me f)
+  pub arrive-next : (f : Frame) (front : front_of to ≡ Some f) → Reached b f front (arrive_of me f)
   unfolding arrive_of
   arrive-next f front = rw (eq-eqb (frame_answer me.setup.n f) 0 (frame_in_range f front)) (arrives_whole f front)

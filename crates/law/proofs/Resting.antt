@@ -1,4 +1,6 @@
 -- The pair after the exchanges of a quiet round, and after the round, said of the pair itself. Assumes nothing.
+use Rattle.std.specs.Prelude.{Some, None, Option}
+use Rattle.frames.specs.declared.Frame.{Frame}
 use Prim.Native.Nat.{ℕ, zero, suc, pred, ◌+◌, ◌-◌, ◌<◌, ◌≤◌}
 use mathlib.Core.Path.{◌≡◌, refl, sym, ap, subst, ◌∙◌}
 use mathlib.Core.Logic.{by_cases, ◌≢◌}
@@ -7,8 +9,6 @@ use native.Mathlib.Decide.{ℕ_discrete}
 use native.Mathlib.Omega.{arith}
 use lib.ListN.{length}
 use Rattle.packets.specs.declared.Packet.{Packet}
-use Rattle.line.specs.declared.Front.{Front}
-use Rattle.line.specs.declared.Front.TheVariants as Front
 use Rattle.setup.specs.declared.Setup.{Setup}
 use Rattle.setup.specs.Setup.{channels, per_end}
 use Rattle.sender.specs.Sender.{credit_at}
@@ -16,7 +16,7 @@ use Rattle.receiver.specs.Receiver.{room_at}
 use Rattle.ends.specs.Sends.{send_of}
 use Rattle.script.specs.declared.Step.{Step}
 use Rattle.pairs.specs.declared.Pair.{Pair}
-use Rattle.pairs.specs.declared.Done.{Done}
+use Rattle.pairs.specs.Pairs.{Done}
 use Rattle.pairs.specs.Pairs.{end_at, line_at, other, swapped, pair_of, carried, send_at}
 use Rattle.pairs.specs.Steps.{act, step_of}
 use Rattle.rounds.specs.Rounds.{plain, exchange, times, opening, quiet_round}
@@ -43,7 +43,7 @@ send_18 : {near far : Setup} {a u b v : List Packet} {p : Pair} {i : ℕ} → i 
 unfolding act send_at
 send_18 {p = p} {i = i} h r =
     ap (λ (d : Done). d.answer) (plain_step 2 i h (form_2 i h) r.view)
-    ∙ ap (λ (f : Front). (carried p i (send_of (end_at p i)) f).answer) r.here.nothing
+    ∙ ap (λ (f : Option Frame). (carried p i (send_of (end_at p i)) f).answer) r.here.nothing
 
 caught : {near far : Setup} {a u b v : List Packet} {p : Pair} {i : ℕ} → At near far a u b v p i → CaughtUp p i
 unfolding sent_not_received

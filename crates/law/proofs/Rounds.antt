@@ -1,5 +1,6 @@
 -- A quiet round: after its exchanges the pair is at rest and caught up, and after its Takes fewer packets are untaken, in each direction.
 -- Assumes nothing.
+use Rattle.std.specs.Prelude.{Some, None}
 use Prim.Native.Nat.{ℕ, zero, suc, pred, ◌+◌, ◌-◌, ◌<◌, ◌≤◌}
 use mathlib.Core.Path.{◌≡◌, refl, sym, ap, subst, ◌∙◌}
 use mathlib.Core.Bool.{true}
@@ -8,23 +9,20 @@ use mathlib.Core.Logic.{by_cases}
 use native.Mathlib.Decide.{ℕ_discrete}
 use native.Mathlib.Omega.{arith}
 use lib.ListN.{length, get_or, drop_of_length-le}
-use Rattle.basics.specs.declared.Found.TheVariants as Found
 use Rattle.packets.specs.declared.Packet.{Packet}
 use Rattle.store.specs.Store.{held}
 use Rattle.line.specs.declared.Line.{Line}
 use Rattle.line.specs.declared.Slot.{Slot}
-use Rattle.line.specs.declared.Front.TheVariants as Front
 use Rattle.line.specs.Line.{empty, on_line}
 use Rattle.setup.specs.declared.Setup.{Setup}
 use Rattle.setup.specs.Setup.{channels, in_range}
 use Rattle.sender.specs.declared.Sender.{Sender}
-use Rattle.sender.specs.declared.New.TheVariants as New
 use Rattle.sender.specs.Sources.{new_of}
 use Rattle.receiver.specs.declared.Receiver.{Receiver}
 use Rattle.receiver.specs.declared.Owed.TheVariants as Owed
 use Rattle.receiver.specs.Receiver.{inbox_at, first_marked}
 use Rattle.ends.specs.declared.End.{End}
-use Rattle.ends.specs.declared.Sent.{Sent}
+use Rattle.ends.specs.Sends.{Sent}
 use Rattle.ends.specs.Sends.{send_of}
 use Rattle.pairs.specs.declared.Pair.{Pair}
 use Rattle.pairs.specs.Pairs.{end_at, line_at, other}
@@ -48,11 +46,11 @@ use Rattle.law.proofs.Opening.{few_0, few_1, opening_view}
 
 pub record Idle (e : End) : Type 0 where
   pub none_owed : e.receiver.reply.owed ≡ Owed.Nothing
-  pub unmarked : first_marked e.receiver ≡ Found.Nothing
-  pub rests : e.sender.replay.at ≡ Found.Nothing
-  pub idle : new_of e.sender ≡ New.Nothing
+  pub unmarked : first_marked e.receiver ≡ None
+  pub rests : e.sender.replay.at ≡ None
+  pub idle : new_of e.sender ≡ None
 
-idle_by : {e : End} {x : Sent} → Sends e x → x.frame ≡ Front.Nothing → Idle e
+idle_by : {e : End} {x : Sent} → Sends e x → x.frame ≡ None → Idle e
 idle_by (a_nak owed) z = let y : ◌≡◌ {A = ℕ} 0 1 = cc in absurd (omega arith)
 idle_by (an_ack owed) z = let y : ◌≡◌ {A = ℕ} 0 1 = cc in absurd (omega arith)
 idle_by (an_update k none first) z = let y : ◌≡◌ {A = ℕ} 0 1 = cc in absurd (omega arith)

@@ -1,5 +1,6 @@
 -- Send keeps both directions, whichever source the frame comes from.
 -- Assumes nothing.
+use Rattle.std.specs.Prelude.{Some, None, Option}
 use Prim.Native.Nat.{ℕ, ◌<◌}
 use mathlib.Core.Path.{◌≡◌, refl, ap, ◌∙◌}
 use mathlib.Core.Bool.{false}
@@ -9,8 +10,6 @@ use Rattle.frames.specs.declared.Frame.{Frame}
 use Rattle.frames.specs.declared.Message.TheVariants as Message
 use Rattle.counters.specs.Counters.{before_of}
 use Rattle.line.specs.declared.Line.{Line}
-use Rattle.line.specs.declared.Front.{Front}
-use Rattle.line.specs.declared.Front.TheVariants as Front
 use Rattle.line.specs.Line.{slot, blank, on_line, put, is_full}
 use Rattle.line.proofs.OnLine.{on-put, len_put, length-put, not_full}
 use Rattle.sender.specs.declared.Sender.{Sender}
@@ -18,7 +17,7 @@ use Rattle.sender.specs.Sources.{new_packet}
 use Rattle.receiver.specs.declared.Receiver.{Receiver}
 use Rattle.receiver.specs.Receiver.{update_frame, channel_in, category_in, room_at}
 use Rattle.ends.specs.declared.End.{End}
-use Rattle.ends.specs.declared.Sent.{Sent}
+use Rattle.ends.specs.Sends.{Sent}
 use Rattle.ends.specs.Ends.{end}
 use Rattle.views.specs.Views.{Sends, a_nak, an_ack, an_update, a_replay, a_new, nothing}
 use Rattle.setup.specs.declared.Setup.{Setup}
@@ -28,9 +27,9 @@ use Rattle.direction.proofs.Answering.{ack-keeps, nak-keeps, update_keeps, back_
 use Rattle.law.proofs.Both.{Both, Fitting, both-with, Next, nothing_new}
 
 -- a frame that was found is one frame
-abbrev frame_in : Front → Frame
-frame_in (Front.Frame f) = f
-frame_in Front.Nothing = blank.frame
+abbrev frame_in : Option Frame → Frame
+frame_in (Some f) = f
+frame_in None = blank.frame
 
 module _ {near far : Setup} {out back : Past} {me it : End} {to from : Line} (b : Both near far out back me it to from) (free : is_full from ≡ false) where
   few : from.len < 16
@@ -56,7 +55,7 @@ module _ {near far : Setup} {out back : Past} {me it : End} {to from : Line} (b 
       nothing_new out' back a refl refl t (both-with b b.to_fits (more f) (rw (on-more f) sends) (rw (on-more f) receives))
 
   -- the frame that was found
-  pub send-next : {x : Sent} → Sends me x → (f : Frame) → x.frame ≡ Front.Frame f → Next near far out back [] [] x.end it to (put from f)
+  pub send-next : {x : Sent} → Sends me x → (f : Frame) → x.frame ≡ Some f → Next near far out back [] [] x.end it to (put from f)
   unfolding update_frame
   send-next (a_nak owed) f e =
       rw (← ap frame_in e)

@@ -1,5 +1,7 @@
 -- What 1,024 exchanges bring: 16 take the old frames off the lines, one more sends a Nak that is owed, 16 more take the Naks off the lines; from then
 -- on each exchange lowers the number of arrivals to come, or nothing moves any more. Assumes nothing.
+use Rattle.std.specs.Prelude.{Some, None, Option}
+use Rattle.frames.specs.declared.Frame.{Frame}
 use Prim.Native.Nat.{ℕ, zero, suc, pred, ◌+◌, ◌-◌, ◌*◌, ◌<◌, ◌≤◌}
 use mathlib.Core.Path.{◌≡◌, refl, sym, ap, subst, ◌∙◌}
 use mathlib.Core.Logic.{◌≢◌, ◌⊎◌, inl, inr, ⊎_elim}
@@ -8,8 +10,6 @@ use native.Mathlib.Omega.{arith}
 use borrow.Author.Tests.{eq-eqb}
 use lib.ListN.{length, take}
 use Rattle.packets.specs.declared.Packet.{Packet}
-use Rattle.line.specs.declared.Front.{Front}
-use Rattle.line.specs.declared.Front.TheVariants as Front
 use Rattle.line.specs.Line.{on_line, front_of}
 use Rattle.line.proofs.OnLine.{length-on}
 use Rattle.setup.specs.declared.Setup.{Setup}
@@ -19,7 +19,7 @@ use Rattle.receiver.specs.declared.Owed.TheVariants as Owed
 use Rattle.ends.specs.Ends.{arrive_of}
 use Rattle.ends.specs.Sends.{send_of}
 use Rattle.pairs.specs.declared.Pair.{Pair}
-use Rattle.pairs.specs.declared.Done.{Done}
+use Rattle.pairs.specs.Pairs.{Done}
 use Rattle.pairs.specs.Pairs.{end_at, line_at, other, carried, send_at, on_front, reached, reach_at}
 use Rattle.rounds.specs.Rounds.{did, exchange, times}
 use Rattle.rows.proofs.Times.{times-add, times-keeps, counts_down, comes_to_rest}
@@ -199,13 +199,13 @@ module _ {near far : Setup} {a u b v : List Packet} where
 
   still_send : {n m : ℕ} {p : Pair} (i : ℕ) → i < 2 → View near far a u b v n m p i → Still p i → did p 2 i ≡ p
   unfolding send_at
-  still_send {p = p} i h w s = send-step i h w ∙ ap (λ (f : Front). (carried p i (send_of (end_at p i)) f).pair) s.nothing
+  still_send {p = p} i h w s = send-step i h w ∙ ap (λ (f : Option Frame). (carried p i (send_of (end_at p i)) f).pair) s.nothing
 
 still_arrive : {near far : Setup} {a u b v : List Packet} {n m : ℕ} {p : Pair} (i : ℕ) → i < 2 → View near far a u b v n m p i → (line_at p i).len ≡ 0 → did p 3 i ≡ p
 unfolding reach_at
 still_arrive {p = p} i h w e =
-    let nothing : front_of (line_at p i) ≡ Front.Nothing = rw (eq-eqb (line_at p i).len 0 e) in
-    arrive-step i h w ∙ ap (λ (f : Front). (on_front p f (λ x. reached p i (arrive_of (end_at p i) x))).pair) nothing
+    let nothing : front_of (line_at p i) ≡ None = rw (eq-eqb (line_at p i).len 0 e) in
+    arrive-step i h w ∙ ap (λ (f : Option Frame). (on_front p f (λ x. reached p i (arrive_of (end_at p i) x))).pair) nothing
 
 pub rest_stays : {near far : Setup} {a u b v : List Packet} {n m : ℕ} {p : Pair} → View near far a u b v n m p 0 → Rest p → exchange p ≡ p
 unfolding exchange

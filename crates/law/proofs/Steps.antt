@@ -1,5 +1,6 @@
 -- Each step of the pair keeps both directions, answers with no unusual number, and adds to the history what it accepted and handed out.
 -- Assumes nothing.
+use Rattle.std.specs.Prelude.{Some, None, Option}
 use Prim.Native.Nat.{ℕ, ◌<◌}
 use mathlib.Core.Path.{◌≡◌, refl, sym, subst, ◌∙◌}
 use mathlib.Core.Logic.{⊎_elim, ◌≢◌}
@@ -14,17 +15,15 @@ use Rattle.packets.specs.declared.Packet.{Packet}
 use Rattle.packets.specs.Packets.{numbered}
 use Rattle.store.specs.Store.{held}
 use Rattle.frames.specs.declared.Frame.{Frame}
-use Rattle.line.specs.declared.Front.{Front}
-use Rattle.line.specs.declared.Front.TheVariants as Front
 use Rattle.line.specs.Line.{is_full, put, front_of, rest_of}
 use Rattle.receiver.specs.Receiver.{inbox_at}
-use Rattle.ends.specs.declared.Stepped.{Stepped}
-use Rattle.ends.specs.declared.Sent.{Sent}
+use Rattle.ends.specs.Ends.{Stepped}
+use Rattle.ends.specs.Sends.{Sent}
 use Rattle.ends.specs.Ends.{timer_of, refresh_of}
 use Rattle.script.specs.declared.Step.{Step}
 use Rattle.script.specs.Step.{is_submit, is_take, formed}
 use Rattle.pairs.specs.declared.Pair.{Pair}
-use Rattle.pairs.specs.declared.Done.{Done}
+use Rattle.pairs.specs.Pairs.{Done}
 use Rattle.pairs.specs.Pairs.{pair, done, end_at, line_at, other, by_end, carried, send_at, reached, on_front, reach_at, lose_at}
 use Rattle.pairs.specs.Steps.{packet_of, act, pair_in_shape, step_of}
 use Rattle.views.specs.Views.{Usual, usual, Submits, not_accepted, joins, Sends, Takes, not_handed, hands}
@@ -123,25 +122,25 @@ module _ {near far : Setup} {out back : Past} {p : Pair} (t : Step) (h : t.end <
 
   -- ---- Send
 
-  sent-does : (q : Packet) → is_submit t.step ≡ false → is_take t.step ≡ false → (x : Sent) → Sends (end_at p i) x → (f : Front) → x.frame ≡ f → Does q (carried p i x f)
-  sent-does q s k x w Front.Nothing e = fails q (done p 18 0) (usual (omega arith) (omega arith)) same
-  sent-does q s k x w (Front.Frame f) e =
+  sent-does : (q : Packet) → is_submit t.step ≡ false → is_take t.step ≡ false → (x : Sent) → Sends (end_at p i) x → (f : Option Frame) → x.frame ≡ f → Does q (carried p i x f)
+  sent-does q s k x w None e = fails q (done p 18 0) (usual (omega arith) (omega arith)) same
+  sent-does q s k x w (Some f) e =
       by_test (Does q) (is_full (line_at p (other i)))
       (λ u. fails q (done p 17 0) (usual (omega arith) (omega arith)) same)
       (λ u. silent q _ all_done s k (kept_from h v x.end (put (line_at p (other i)) f) (send-next v.both u w f e)))
 
   -- ---- Arrive, Damage, Lose
 
-  reached-does : (q : Packet) → is_submit t.step ≡ false → is_take t.step ≡ false → (f : Frame) (front : front_of (line_at p i) ≡ Front.Frame f) (x : Stepped)
+  reached-does : (q : Packet) → is_submit t.step ≡ false → is_take t.step ≡ false → (f : Frame) (front : front_of (line_at p i) ≡ Some f) (x : Stepped)
       → Reached v.both f front x → Does q (reached p i x)
   unfolding reached
   reached-does q s k f front x r =
       rw (eq-eqb x.answer 0 r.says) (silent q _ all_done s k (kept_to h v x.end (rest_of (line_at p i)) r.next))
 
-  front-does : (q : Packet) (found : Frame → Done) → ((f : Frame) → front_of (line_at p i) ≡ Front.Frame f → Does q (found f))
-      → (x : Front) → front_of (line_at p i) ≡ x → Does q (on_front p x found)
-  front-does q found g Front.Nothing e = fails q (done p 19 0) (usual (omega arith) (omega arith)) same
-  front-does q found g (Front.Frame f) e = g f e
+  front-does : (q : Packet) (found : Frame → Done) → ((f : Frame) → front_of (line_at p i) ≡ Some f → Does q (found f))
+      → (x : Option Frame) → front_of (line_at p i) ≡ x → Does q (on_front p x found)
+  front-does q found g None e = fails q (done p 19 0) (usual (omega arith) (omega arith)) same
+  front-does q found g (Some f) e = g f e
 
   -- ---- Submit
 

@@ -1,5 +1,6 @@
 -- One Take at the pair: it is accepted where a packet of its category waits and no posted one is in its way, and refused where none waits;
 -- and what it makes of the pair. Assumes nothing.
+use Rattle.std.specs.Prelude.{Some, None, Option, ℕ}
 use Prim.Native.Nat.{ℕ, ◌+◌, ◌<◌}
 use mathlib.Core.Path.{◌≡◌, refl, sym, ap, subst, ◌∙◌}
 use mathlib.Core.Logic.{◌⊎◌, inl, inr, ◌≢◌, by_cases}
@@ -12,15 +13,12 @@ use borrow.Author.Tests.{le-leb, le-ltb, eq-eqb, ne_eqb}
 use lib.ListN.{length, set, take, drop, length-set}
 use lib.Seq.{get_or-set_same, get_or-set_other}
 use Rattle.basics.specs.Lists.{all, find}
-use Rattle.basics.specs.declared.Found.{Found}
-use Rattle.basics.specs.declared.Found.TheVariants.{At, Nothing}
 use Rattle.basics.proofs.Each.{by_order_lem}
 use Rattle.basics.proofs.Filters.{filter_none, filter_first, filter-other}
 use Rattle.basics.proofs.Finds.{found_first, found_nothing}
 use Rattle.packets.specs.declared.Packet.{Packet}
 use Rattle.packets.specs.declared.Category.{Category}
 use Rattle.packets.specs.declared.Category.TheVariants.{Posted, NonPosted, Completion}
-use Rattle.packets.specs.declared.Numbered.TheVariants as Numbered
 use Rattle.packets.specs.Packets.{number_of, numbered, category_of}
 use Rattle.packets.proofs.Numbers.{number_below}
 use Rattle.store.specs.Store.{held, at, no_packet, is_of, of_category}
@@ -35,7 +33,7 @@ use Rattle.delivery.specs.Delivery as Delivery
 use Rattle.delivery.proofs.Takes.{by_category}
 use Rattle.receipts.proofs.Changes.{held_handed, inbox_handed_other}
 use Rattle.ends.specs.declared.End.{End}
-use Rattle.ends.specs.declared.Stepped.{Stepped}
+use Rattle.ends.specs.Ends.{Stepped}
 use Rattle.ends.specs.Ends.{end, end_of, take_at}
 use Rattle.script.specs.Step.{form_by, formed, fields_fit}
 use Rattle.pairs.specs.declared.Pair.{Pair}
@@ -66,7 +64,7 @@ Clear c ps = (c ≡ Posted) ⊎ (of_category Posted ps ≡ [])
 
 -- ---- categories by their numbers
 
-numbered_is : (c : Category) → Numbered.Category c ≡ numbered (number_of c)
+numbered_is : (c : Category) → Some c ≡ numbered (number_of c)
 numbered_is Posted = refl
 numbered_is NonPosted = refl
 numbered_is Completion = refl
@@ -82,33 +80,33 @@ other-category c k q n e =
 -- ---- Take at the receiving half
 
 -- of a category of which some are found, some wait
-some_found : (c : Category) (ps : List Packet) (i : ℕ) → find (is_of c) ps 0 ≡ At i → of_category c ps ≢ []
+some_found : (c : Category) (ps : List Packet) (i : ℕ) → find (is_of c) ps 0 ≡ Some i → of_category c ps ≢ []
 some_found c ps i e none =
     let f = found_first no_packet (is_of c) ps i e in
     omega (arith, ap length (sym none ∙ filter_first (is_of c) ps i no_packet f.0 f.1 f.2))
 
 -- where the way is clear no posted packet stands before the one that is found
-not-before : (c : Category) (ps : List Packet) (place : ℕ) → find (is_of c) ps 0 ≡ At place → Clear c ps → is_before (find (is_of Posted) ps 0) place ≡ false
+not-before : (c : Category) (ps : List Packet) (place : ℕ) → find (is_of c) ps 0 ≡ Some place → Clear c ps → is_before (find (is_of Posted) ps 0) place ≡ false
 not-before c ps place e (inl is) =
-    let f : find (is_of Posted) ps 0 ≡ At place = rw is at e in
+    let f : find (is_of Posted) ps 0 ≡ Some place = rw is at e in
     rw f (le-ltb place place (le_refl place))
 not-before c ps place e (inr none) = go (find (is_of Posted) ps 0) refl
   where
-    go : (f : Found) → find (is_of Posted) ps 0 ≡ f → is_before f place ≡ false
-    go Nothing z = refl
-    go (At i) z = absurd (some_found Posted ps i z none)
+    go : (f : Option ℕ) → find (is_of Posted) ps 0 ≡ f → is_before f place ≡ false
+    go None z = refl
+    go (Some i) z = absurd (some_found Posted ps i z none)
 
 module _ (r : Receiver) (channel : ℕ) (c : Category) (some : 0 < length (of_category c (held (inbox_at r channel)))) (clear : Clear c (held (inbox_at r channel))) where
-  found_handed : (f : Found) → find (is_of c) (held (inbox_at r channel)) 0 ≡ f → (taken_at r channel c f).answer ≡ 0
+  found_handed : (f : Option ℕ) → find (is_of c) (held (inbox_at r channel)) 0 ≡ f → (taken_at r channel c f).answer ≡ 0
   unfolding taken_at
-  found_handed Nothing e =
+  found_handed None e =
       let q = held (inbox_at r channel) in
       absurd (omega (arith, ap length (filter_none (is_of c) q (found_nothing no_packet (is_of c) q 0 e))))
-  found_handed (At place) e = rw (not-before c (held (inbox_at r channel)) place e clear)
+  found_handed (Some place) e = rw (not-before c (held (inbox_at r channel)) place e clear)
 
   some_handed : (n : ℕ) → channel < n → channel < channels → (Delivery.take_of r n channel (number_of c)).answer ≡ 0
   some_handed n used here =
-      rw (← by_category r n channel (number_of c) used here (Numbered.Category c) (numbered_is c))
+      rw (← by_category r n channel (number_of c) used here (Some c) (numbered_is c))
       (found_handed (find (is_of c) (held (inbox_at r channel)) 0) refl)
 
 -- ---- Take at the pair

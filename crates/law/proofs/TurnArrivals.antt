@@ -1,5 +1,5 @@
 -- The oldest frame on the line reaches the end that acts, within a quiet round. Assumes nothing.
-use Rattle.std.specs.Prelude.{if◌then◌else◌}
+use Rattle.std.specs.Prelude.{if◌then◌else◌, Some, None}
 use Prim.Native.Nat.{ℕ, zero, suc, pred, ◌+◌, ◌<◌, ◌≤◌}
 use mathlib.Core.Path.{◌≡◌, refl, sym, ap, ◌∙◌}
 use mathlib.Core.Logic.{◌≢◌}
@@ -19,14 +19,13 @@ use Rattle.frames.specs.Frames.{frame_answer}
 use Rattle.counters.specs.declared.Seq.{Seq}
 use Rattle.line.specs.declared.Line.{Line}
 use Rattle.line.specs.declared.Slot.{Slot}
-use Rattle.line.specs.declared.Front.TheVariants as Front
 use Rattle.line.specs.Line.{slot, on_line, front_of, rest_of}
 use Rattle.setup.specs.declared.Setup.{Setup}
 use Rattle.setup.specs.Setup.{channels}
-use Rattle.delivery.specs.declared.Got.{Got}
+use Rattle.delivery.specs.Delivery.{Got}
 use Rattle.hearing.specs.Hearing.{hears, acknowledged, again}
 use Rattle.sender.specs.declared.Sender.{Sender}
-use Rattle.sender.specs.declared.Told.{Told}
+use Rattle.sender.specs.Sender.{Told}
 use Rattle.sender.specs.Sender.{credit_at, with_credit}
 use Rattle.credits.specs.Credits.{updated}
 use Rattle.receiver.specs.declared.Owed.{Owed}
@@ -36,7 +35,7 @@ use Rattle.receiver.specs.declared.Receiver.{Receiver}
 use Rattle.receiver.specs.Receiver.{with_reply, after_accepted, after_duplicate, after_gap, ack_unless_nak}
 use Rattle.delivery.specs.Delivery.{stored}
 use Rattle.ends.specs.declared.End.{End}
-use Rattle.ends.specs.declared.Stepped.{Stepped}
+use Rattle.ends.specs.Ends.{Stepped}
 use Rattle.ends.specs.Ends.{end, arrive_of, heard}
 use Rattle.traffic.specs.Traffic.{a_message}
 use Rattle.amounts.specs.Amounts.{channel_for}
@@ -86,7 +85,7 @@ module _ {n m : ℕ} {near far : Setup} {out back : Past} {me it : End} {to from
   b = t.both
 
   -- what is left of both directions without the oldest frame
-  turn_rest : (f : Frame) (front : front_of to ≡ Front.Frame f) (out' back' : Past) (s : Sender) (r : Receiver)
+  turn_rest : (f : Frame) (front : front_of to ≡ Some f) (out' back' : Past) (s : Sender) (r : Receiver)
       → Direction me.setup out' s (on_line from) it.receiver (on_line (rest_of to)) → Live n me.setup out' s (on_line from) it.receiver (on_line (rest_of to))
       → Direction it.setup back' it.sender (on_line (rest_of to)) r (on_line from) → Live (pred m) it.setup back' it.sender (on_line (rest_of to)) r (on_line from)
       → Turn n (pred m) near far out' back' (end me.setup s r) it (rest_of to) from
@@ -107,13 +106,13 @@ module _ {n m : ℕ} {near far : Setup} {out back : Past} {me it : End} {to from
       }
 
   -- the end and the line are lighter, by what the frame weighed
-  less : (f : Frame) → front_of to ≡ Front.Frame f → (x : ℕ) → x < burden me.sender me.receiver + weight f
+  less : (f : Frame) → front_of to ≡ Some f → (x : ℕ) → x < burden me.sender me.receiver + weight f
       → x + weight_of (on_line (rest_of to)) < burden me.sender me.receiver + weight_of (on_line to)
   less f front x h = rw (on_to b f front) (omega arith)
 
   -- ---- a packet: it is the next, a duplicate, or, where old frames are left, out of order
 
-  module _ (number : Seq) (p : Packet) (front : front_of to ≡ Front.Frame (Frame.Packet number p)) where
+  module _ (number : Seq) (p : Packet) (front : front_of to ≡ Some (Frame.Packet number p)) where
     abbrev f : Frame
     f = Frame.Packet number p
 
@@ -177,7 +176,7 @@ module _ {n m : ℕ} {near far : Setup} {out back : Past} {me it : End} {to from
 
   -- ---- a link message is heard
 
-  module _ (x : Message) (front : front_of to ≡ Front.Frame (Frame.Message x)) where
+  module _ (x : Message) (front : front_of to ≡ Some (Frame.Message x)) where
     abbrev g : Frame
     g = Frame.Message x
 
@@ -207,13 +206,13 @@ module _ {n m : ℕ} {near far : Setup} {out back : Past} {me it : End} {to from
           lighter = λ c. less g front _ (omega (arith, w c));
         }
 
-  sends_at : (f : Frame) → front_of to ≡ Front.Frame f → Direction me.setup out me.sender (on_line from) it.receiver (slot f ∷ on_line (rest_of to))
+  sends_at : (f : Frame) → front_of to ≡ Some f → Direction me.setup out me.sender (on_line from) it.receiver (slot f ∷ on_line (rest_of to))
   sends_at f front = rw (on_to b f front) at b.sends
 
-  live_at : (f : Frame) → front_of to ≡ Front.Frame f → Live n me.setup out me.sender (on_line from) it.receiver (slot f ∷ on_line (rest_of to))
+  live_at : (f : Frame) → front_of to ≡ Some f → Live n me.setup out me.sender (on_line from) it.receiver (slot f ∷ on_line (rest_of to))
   live_at f front = rw (on_to b f front) at t.sends
 
-  message_turn : (x : Message) (front : front_of to ≡ Front.Frame (Frame.Message x)) → Entered n m near far out back me it to from (heard me (Frame.Message x))
+  message_turn : (x : Message) (front : front_of to ≡ Some (Frame.Message x)) → Entered n m near far out back me it to from (heard me (Frame.Message x))
   unfolding hears
   message_turn (Message.Ack number) front =
       let i = sends_at (Frame.Message (Message.Ack number)) front in
@@ -238,11 +237,11 @@ module _ {n m : ℕ} {near far : Setup} {out back : Past} {me it : End} {to from
       (live_update_heard b.facing.here i h (live_at (Frame.Message (Message.Update channel c x)) front))
       (λ z. le_of_eq (limited-burden me.sender me.receiver (slot_of channel c) (updated (credit_at me.sender (slot_of channel c)) x))))
 
-  frame_turn : (f : Frame) (front : front_of to ≡ Front.Frame f) → Entered n m near far out back me it to from (heard me f)
+  frame_turn : (f : Frame) (front : front_of to ≡ Some f) → Entered n m near far out back me it to from (heard me f)
   frame_turn (Frame.Packet number p) front =
       rw (← channel_same b.facing p.class) (by_number number p front (arrive_view b.facing.there (receives number p front)))
   frame_turn (Frame.Message x) front = message_turn x front
 
-  pub arrive_turn : (f : Frame) (front : front_of to ≡ Front.Frame f) → Entered n m near far out back me it to from (arrive_of me f)
+  pub arrive_turn : (f : Frame) (front : front_of to ≡ Some f) → Entered n m near far out back me it to from (arrive_of me f)
   unfolding arrive_of
   arrive_turn f front = rw (eq-eqb (frame_answer me.setup.n f) 0 (frame_in_range b f front)) (frame_turn f front)

@@ -1,5 +1,6 @@
 -- Both directions within a quiet round, and what Send makes of them: n frames on the line from the end that acts and m on the line to it are old.
 -- Assumes nothing.
+use Rattle.std.specs.Prelude.{Some, None, Option}
 use Prim.Native.Nat.{ℕ, ◌+◌, ◌<◌, ◌≤◌}
 use mathlib.Core.Path.{◌≡◌, refl, sym, ap, ◌∙◌}
 use mathlib.Core.Logic.{◌≢◌}
@@ -13,8 +14,6 @@ use Rattle.frames.specs.declared.Frame.TheVariants as Frame
 use Rattle.frames.specs.declared.Message.TheVariants as Message
 use Rattle.line.specs.declared.Line.{Line}
 use Rattle.line.specs.declared.Slot.{Slot}
-use Rattle.line.specs.declared.Front.{Front}
-use Rattle.line.specs.declared.Front.TheVariants as Front
 use Rattle.line.specs.Line.{slot, blank, on_line, put, is_full}
 use Rattle.line.proofs.OnLine.{on-put, len_put, length-put, not_full}
 use Rattle.setup.specs.declared.Setup.{Setup}
@@ -25,7 +24,7 @@ use Rattle.receiver.specs.declared.Owed.TheVariants as Owed
 use Rattle.receiver.specs.declared.Receiver.{Receiver}
 use Rattle.receiver.specs.Receiver.{cleared, told, update_frame, channel_in, category_in, room_at}
 use Rattle.ends.specs.declared.End.{End}
-use Rattle.ends.specs.declared.Sent.{Sent}
+use Rattle.ends.specs.Sends.{Sent}
 use Rattle.ends.specs.Ends.{end}
 use Rattle.views.specs.Views.{Sends, a_nak, an_ack, an_update, a_replay, a_new, nothing}
 use Rattle.direction.specs.Direction.{Past, Direction, sending_one}
@@ -57,9 +56,9 @@ pub record Left (n m : ℕ) (near far : Setup) (out back : Past) (me it : End) (
   pub owes_none : me'.receiver.reply.owed ≡ Owed.Nothing
   pub calm : (k : ℕ) → me.receiver.reply.owed ≢ Owed.Nak → Calm k (on_line from) → Calm k (on_line from ++ (slot f ∷ []))
 
-abbrev frame_in : Front → Frame
-frame_in (Front.Frame f) = f
-frame_in Front.Nothing = blank.frame
+abbrev frame_in : Option Frame → Frame
+frame_in (Some f) = f
+frame_in None = blank.frame
 
 nak_owed : {A : Type 0} {x : Owed} → x ≡ Owed.Nak → x ≢ Owed.Nak → A
 nak_owed e n = absurd (n e)
@@ -93,7 +92,7 @@ module _ {n m : ℕ} {near far : Setup} {out back : Past} {me it : End} {to from
         receives = rw on k;
       }
 
-  pub send_turn : {x : Sent} → Sends me x → (f : Frame) → x.frame ≡ Front.Frame f → Left n m near far out back me it to from x.end f
+  pub send_turn : {x : Sent} → Sends me x → (f : Frame) → x.frame ≡ Some f → Left n m near far out back me it to from x.end f
   unfolding update_frame cleared told
   send_turn (a_nak owed) f e =
       let x = before_of me.receiver.reply.next_receive in

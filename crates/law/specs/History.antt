@@ -1,14 +1,11 @@
 -- The history of a pair: what each step answered, and which packets were accepted and taken. Demand 3 speaks of these.
 -- Assumes nothing.
-use Rattle.std.specs.Prelude.{ℕ, ◌+◌, ◌-◌, ◌<◌, ◌≡◌, Bool, true, ◌&&◌, List, [], ◌∷◌, map, eqb, length, get_or, drop, if◌then◌else◌}
-use Rattle.basics.specs.declared.Found.TheVariants as Found
+use Rattle.std.specs.Prelude.{ℕ, ◌+◌, ◌-◌, ◌<◌, ◌≡◌, Bool, true, ◌&&◌, List, [], ◌∷◌, map, eqb, length, get_or, drop, if◌then◌else◌, Some, None, Option}
 use Rattle.basics.specs.Lists.{filter}
 use Rattle.counters.specs.Wrapped.{minus}
 use Rattle.counters.specs.Counters.{seq_range, next_of}
 use Rattle.packets.specs.declared.Packet.{Packet}
 use Rattle.packets.specs.declared.Category.{Category}
-use Rattle.packets.specs.declared.Numbered.{Numbered}
-use Rattle.packets.specs.declared.Numbered.TheVariants as Numbered
 use Rattle.packets.specs.Packets.{numbered}
 use Rattle.store.specs.Store.{held, no_packet, of_category}
 use Rattle.setup.specs.declared.Setup.{Setup}
@@ -37,9 +34,9 @@ pub record Event : Type 0 where
   pub packet : Packet
 
 -- the oldest packet of a category, by the category's number
-abbrev pub oldest_of : Numbered → List Packet → Packet
-oldest_of (Numbered.Category c) ps = get_or (of_category c ps) 0 no_packet
-oldest_of Numbered.Nothing ps = no_packet
+abbrev pub oldest_of : Option Category → List Packet → Packet
+oldest_of (Some c) ps = get_or (of_category c ps) 0 no_packet
+oldest_of None ps = no_packet
 
 -- Submit is about its own packet; Take by channel and category hands out the oldest such packet
 abbrev pub about : Pair → Step → Packet
@@ -94,7 +91,7 @@ untaken es = (length (accepted 0 es) - length (taken 1 es)) + (length (accepted 
 -- ---- a direction that has caught up, from end i
 
 pub record CaughtUp (p : Pair) (i : ℕ) : Type 0 where
-  pub no_replay : (end_at p i).sender.replay.at ≡ Found.Nothing
+  pub no_replay : (end_at p i).sender.replay.at ≡ None
   pub buffer_empty : (end_at p i).sender.buffer.len ≡ 0  -- everything sent is acknowledged
   pub all_received : sent_not_received p i ≡ []
   pub numbers_agree : (end_at p i).sender.next ≡ (end_at p (other i)).receiver.reply.next_receive

@@ -1,6 +1,6 @@
 -- A frame that an end puts on its line lowers the end's burden by the frame's weight. First laws of the sum and of the count of marks.
 -- Assumes nothing.
-use Rattle.std.specs.Prelude.{if◌then◌else◌}
+use Rattle.std.specs.Prelude.{if◌then◌else◌, Some, None, Option, ℕ}
 use Prim.Native.Nat.{ℕ, zero, suc, ◌+◌, ◌-◌, ◌<◌}
 use mathlib.Core.Path.{◌≡◌, refl, sym, ap, ◌∙◌}
 use mathlib.Core.Logic.{◌≢◌, ⊎_elim}
@@ -12,8 +12,6 @@ use borrow.Author.Tests.{ltb-true, ltb-false}
 use lib.Dec.{ltb}
 use lib.ListN.{length, get_or, set}
 use Rattle.basics.specs.Lists.{filter}
-use Rattle.basics.specs.declared.Found.{Found}
-use Rattle.basics.specs.declared.Found.TheVariants.{At, Nothing}
 use Rattle.basics.proofs.Branches.{by_test}
 use Rattle.basics.proofs.Finds.{found_first}
 use Rattle.credits.specs.Credits.{none, room_of, unmarked}
@@ -23,7 +21,6 @@ use Rattle.setup.specs.declared.Setup.{Setup}
 use Rattle.setup.specs.Setup.{channels}
 use Rattle.sender.specs.declared.Sender.{Sender}
 use Rattle.sender.specs.declared.Replay.{Replay}
-use Rattle.sender.specs.declared.New.TheVariants as New
 use Rattle.sender.specs.Sender.{queue_at}
 use Rattle.sender.specs.Sources.{place_after, replayed, new_of, sent_new}
 use Rattle.sender.proofs.Changes.{queue-sent-other, len_sent, replay-sent}
@@ -76,19 +73,19 @@ module _ {A : Type 0} (ok : A → Bool) where
 
 -- ---- what is left of a replay
 
-left-none : {x : Found} → x ≡ Nothing → (len : ℕ) → left x len ≡ 0
+left-none : {x : Option ℕ} → x ≡ None → (len : ℕ) → left x len ≡ 0
 left-none e len = rw e
 
 left_after : (j len : ℕ) → j < len → left (place_after j len) len + 1 ≡ len - j
 left_after j len h =
-    by_test (λ (x : Found). left x len + 1 ≡ len - j) (ltb (j + 1) len)
+    by_test (λ (x : Option ℕ). left x len + 1 ≡ len - j) (ltb (j + 1) len)
     (λ t. omega (arith, ltb-true (j + 1) len t))
     (λ t. omega (arith, ltb-false (j + 1) len t))
 
 -- ---- a new packet
 
 module _ {link : Setup} {g : Past} {s : Sender} {forth back : List Slot} {q : Receiver} (i : Direction link g s forth q back) where
-  new_queued : (channel place : ℕ) → new_of s ≡ New.At channel place → queued (sent_new s channel place) + 1 ≡ queued s
+  new_queued : (channel place : ℕ) → new_of s ≡ Some (channel, place) → queued (sent_new s channel place) + 1 ≡ queued s
   unfolding queued
   new_queued channel place new =
       let here = new_channel s channel place new in
@@ -101,7 +98,7 @@ module _ {link : Setup} {g : Past} {s : Sender} {forth back : List Slot} {q : Re
       (λ k n. rw (queue-sent-other s channel k place n)))
 
   -- no replay runs, so it adds none to what is left of one
-  pub new_burden : (channel place : ℕ) → new_of s ≡ New.At channel place → s.replay.at ≡ Nothing → (r : Receiver)
+  pub new_burden : (channel place : ℕ) → new_of s ≡ Some (channel, place) → s.replay.at ≡ None → (r : Receiver)
       → burden (sent_new s channel place) r + 2 ≡ burden s r
   unfolding burden
   new_burden channel place new rests r =
@@ -110,7 +107,7 @@ module _ {link : Setup} {g : Past} {s : Sender} {forth back : List Slot} {q : Re
 
   -- ---- a packet of a replay
 
-  pub again-burden : (j : ℕ) → s.replay.at ≡ At j → (r : Receiver) → burden (replayed s j) r + 2 ≡ burden s r
+  pub again-burden : (j : ℕ) → s.replay.at ≡ Some j → (r : Receiver) → burden (replayed s j) r + 2 ≡ burden s r
   unfolding burden replayed queued
   again-burden j at r = rw at (omega (arith, left_after j s.buffer.len (i.sending.replay_in_lem j at)))
 
@@ -122,7 +119,7 @@ unfolding burden cleared marks
 owed_burden s r owes = omega arith
 
 -- a marked update
-pub update_burden : (s : Sender) (r : Receiver) (k : ℕ) → first_marked r ≡ At k → burden s (told r k) + 1 ≡ burden s r
+pub update_burden : (s : Sender) (r : Receiver) (k : ℕ) → first_marked r ≡ Some k → burden s (told r k) + 1 ≡ burden s r
 unfolding burden told marks unmarked
 update_burden s r k first =
     let f = found_first (room_of none) is_marked r.rooms k first in

@@ -1,5 +1,6 @@
 -- A direction at rest, with nothing on a line, owed, marked or replayed: what was sent is received and acknowledged, and each limit is what the
 -- other end allocated. Assumes nothing.
+use Rattle.std.specs.Prelude.{None}
 use Prim.Native.Nat.{ℕ, ◌*◌, ◌<◌}
 use mathlib.Core.Path.{◌≡◌, ◌∙◌}
 use mathlib.Core.Bool.{true}
@@ -7,7 +8,6 @@ use mathlib.Core.List.{[]}
 use native.Mathlib.Omega.{arith}
 use lib.ListN.{length}
 use lib.Seq.{take-length, drop-length}
-use Rattle.basics.specs.declared.Found.TheVariants.{Nothing}
 use Rattle.basics.proofs.Each.{by_order_lem}
 use Rattle.setup.specs.declared.Setup.{Setup}
 use Rattle.setup.specs.Setup.{per_end, in_range}
@@ -24,7 +24,7 @@ use Rattle.quiet.proofs.Told.{rest-told}
 use Rattle.quiet.proofs.Shown.{rest-shown, rest_unused}
 
 module _ {link : Setup} {g : Past} {s : Sender} {r : Receiver} (ok : in_range link ≡ true) (i : Direction link g s [] r []) (l : Live 0 link g s [] r [])
-    (rests : s.replay.at ≡ Nothing) (none_owed : r.reply.owed ≡ Owed.Nothing) (unmarked : first_marked r ≡ Nothing) where
+    (rests : s.replay.at ≡ None) (none_owed : r.reply.owed ≡ Owed.Nothing) (unmarked : first_marked r ≡ None) where
   -- ---- what was sent
 
   pub all_received : g.got ≡ length g.sent

@@ -1,5 +1,6 @@
 -- A direction at rest: what keeps a packet in its send queue. Its credits suffice where nothing of its category waits at the receiver, so the
 -- first of its category with no posted packet before it is eligible. Where nothing waits there, no packet waits to be sent. Assumes nothing.
+use Rattle.std.specs.Prelude.{None, Some}
 use Prim.Native.Nat.{ℕ, ◌≤◌, ◌<◌}
 use mathlib.Core.Path.{◌≡◌, refl, sym, ap, ◌∙◌}
 use mathlib.Core.Logic.{◌⊎◌, inr, ⊎_elim}
@@ -10,7 +11,6 @@ use native.Mathlib.Nat.{add-zero}
 use borrow.Author.Tests.{leb-true, eqb-true}
 use lib.Dec.{eqb}
 use lib.ListN.{length, take}
-use Rattle.basics.specs.declared.Found.TheVariants.{Nothing}
 use Rattle.basics.proofs.Branches.{and_left, and_right}
 use Rattle.packets.specs.declared.Packet.{Packet}
 use Rattle.packets.specs.declared.Category.TheVariants.{Posted}
@@ -21,7 +21,6 @@ use Rattle.choice.specs.Choice.{none_of, eligible}
 use Rattle.setup.specs.declared.Setup.{Setup}
 use Rattle.setup.specs.Setup.{channels, in_range}
 use Rattle.sender.specs.declared.Sender.{Sender}
-use Rattle.sender.specs.declared.New.TheVariants as New
 use Rattle.sender.specs.Sender.{queue_at, credit_at}
 use Rattle.sender.specs.Sources.{credits_of, new_of}
 use Rattle.sender.proofs.Choosing.{credit_in_lem, none-eligible}
@@ -39,7 +38,7 @@ use Rattle.quiet.specs.Quiet.{Live}
 use Rattle.quiet.proofs.CaughtUp.{all-arrived, buffer_empty, limits_agree}
 
 module _ {link : Setup} {g : Past} {s : Sender} {r : Receiver} (ok : in_range link ≡ true) (i : Direction link g s [] r []) (l : Live 0 link g s [] r [])
-    (rests : s.replay.at ≡ Nothing) (none_owed : r.reply.owed ≡ Owed.Nothing) (unmarked : first_marked r ≡ Nothing) where
+    (rests : s.replay.at ≡ None) (none_owed : r.reply.owed ≡ Owed.Nothing) (unmarked : first_marked r ≡ None) where
   module _ (channel place : ℕ) (here : channel < channels) (within : place < length (held (queue_at s channel)))
       (collected : of_category (category_of (at (queue_at s channel) place)) (held (inbox_at r channel)) ≡ []) where
     abbrev queue : List Packet
@@ -102,7 +101,7 @@ module _ {link : Setup} {g : Past} {s : Sender} {r : Receiver} (ok : in_range li
 
   -- ---- nothing waits at the receiver, and the sender has nothing to send
 
-  pub queue-empty : new_of s ≡ New.Nothing → ((channel : ℕ) → channel < channels → held (inbox_at r channel) ≡ [])
+  pub queue-empty : new_of s ≡ None → ((channel : ℕ) → channel < channels → held (inbox_at r channel) ≡ [])
       → (channel : ℕ) → channel < channels → held (queue_at s channel) ≡ []
   queue-empty idle empty channel here = go (held (queue_at s channel)) refl
     where

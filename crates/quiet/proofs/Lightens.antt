@@ -1,5 +1,6 @@
 -- An arrival adds at most the weight of one link message to an end's burden: a packet makes at most one Ack or Nak owed, an Ack does not make
 -- more of what is left of a replay, and an update changes nothing. Assumes nothing.
+use Rattle.std.specs.Prelude.{Some, None, Option, ℕ}
 use Prim.Native.Nat.{ℕ, ◌+◌, ◌-◌, ◌≤◌, ◌<◌}
 use mathlib.Core.Path.{◌≡◌, refl, ◌∙◌}
 use mathlib.Core.List.{List}
@@ -7,8 +8,6 @@ use native.Mathlib.Nat.{le_refl}
 use native.Mathlib.Omega.{arith}
 use borrow.Author.Tests.{leb-true, leb-false}
 use lib.Dec.{leb, eqb}
-use Rattle.basics.specs.declared.Found.{Found}
-use Rattle.basics.specs.declared.Found.TheVariants.{At, Nothing}
 use Rattle.basics.proofs.Branches.{by_test}
 use Rattle.counters.specs.declared.Seq.{Seq}
 use Rattle.counters.specs.Counters.{seq}
@@ -60,12 +59,12 @@ stored-burden s {r} a {channel} here p =
 -- ---- an Ack
 
 -- a running replay stays at its next packet, or goes on at the oldest left, which is a later one
-left-moved : (k len : ℕ) (x : Found) → k ≤ len → left (moved k (len - k) x) (len - k) ≤ left x len
-left-moved k len Nothing h = le_refl 0
-left-moved k len (At j) h =
-    by_test (λ (x : Found). left x (len - k) ≤ len - j) (leb k j)
+left-moved : (k len : ℕ) (x : Option ℕ) → k ≤ len → left (moved k (len - k) x) (len - k) ≤ left x len
+left-moved k len None h = le_refl 0
+left-moved k len (Some j) h =
+    by_test (λ (x : Option ℕ). left x (len - k) ≤ len - j) (leb k j)
     (λ t. omega (arith, leb-true k j t))
-    (λ t. by_test (λ (x : Found). left x (len - k) ≤ len - j) (eqb (len - k) 0) (λ u. omega arith) (λ u. omega (arith, leb-false k j t)))
+    (λ t. by_test (λ (x : Option ℕ). left x (len - k) ≤ len - j) (eqb (len - k) 0) (λ u. omega arith) (λ u. omega (arith, leb-false k j t)))
 
 pub acked-burden : {link : Setup} {g : Past} {s : Sender} {forth back : List Slot} {q : Receiver} {number : Seq} {v : ℕ} → Direction link g s forth q back
     → number ≡ seq (up_to v) → g.acked ≤ v → v ≤ g.got → (r : Receiver) → burden (acknowledged s number) r ≤ burden s r

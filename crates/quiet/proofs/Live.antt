@@ -1,6 +1,6 @@
 -- What each event of a quiet round makes of a direction: no gap, what the sender will be told, and which limits it will have, together.
 -- Assumes nothing.
-use Rattle.std.specs.Prelude.{if◌then◌else◌}
+use Rattle.std.specs.Prelude.{if◌then◌else◌, Some, None}
 use Prim.Native.Nat.{ℕ, zero, suc, pred, ◌+◌, ◌≤◌, ◌<◌}
 use mathlib.Core.Path.{◌≡◌, refl, sym, ap, ◌∙◌}
 use mathlib.Core.Logic.{◌≢◌}
@@ -8,7 +8,6 @@ use mathlib.Core.Bool.{Bool, true, false}
 use mathlib.Core.List.{List, [], ◌∷◌, ◌++◌}
 use native.Mathlib.Omega.{arith}
 use lib.ListN.{length}
-use Rattle.basics.specs.declared.Found.TheVariants.{At, Nothing}
 use Rattle.counters.specs.declared.Counts.{Counts}
 use Rattle.counters.specs.declared.Seq.{Seq}
 use Rattle.counters.specs.Counters.{seq, before_of}
@@ -24,7 +23,6 @@ use Rattle.line.specs.Line.{slot}
 use Rattle.setup.specs.declared.Setup.{Setup}
 use Rattle.setup.specs.Setup.{channels, in_range}
 use Rattle.sender.specs.declared.Sender.{Sender}
-use Rattle.sender.specs.declared.New.TheVariants as New
 use Rattle.sender.specs.Sender.{credit_at, with_credit, with_replay, begun}
 use Rattle.sender.specs.Sources.{replay_frame, replayed, new_of, new_packet, new_frame, sent_new}
 use Rattle.hearing.specs.Hearing.{acknowledged, again}
@@ -47,7 +45,7 @@ use Rattle.quiet.proofs.Told.{open_told, open_idle_told, marked-told, new_told, 
 use Rattle.quiet.proofs.Shown.{open_shown, sent-shown, got-shown, acked-shown, reply-shown, stored-shown, ack-sent-shown, nak-sent-shown, update_sent-shown, back_passed_shown, ack-heard-shown, nak-heard-shown, update_heard-shown, packet_gone_shown}
 
 module _ {n : ℕ} {link : Setup} {g : Past} {s : Sender} {forth back : List Slot} {r : Receiver} where
-  pub live_new : Direction link g s forth r back → (channel place : ℕ) → new_of s ≡ New.At channel place → s.replay.at ≡ Nothing → Live n link g s forth r back
+  pub live_new : Direction link g s forth r back → (channel place : ℕ) → new_of s ≡ Some (channel, place) → s.replay.at ≡ None → Live n link g s forth r back
       → Live n link (sending_one g (new_packet s channel place)) (sent_new s channel place) (forth ++ (slot (new_frame s channel place) ∷ [])) r back
   live_new i channel place new rests v =
       record {
@@ -56,7 +54,7 @@ module _ {n : ℕ} {link : Setup} {g : Past} {s : Sender} {forth back : List Slo
         shown = sent-shown (new_packet s channel place) v.shown;
       }
 
-  pub live_again : Direction link g s forth r back → (j : ℕ) → s.replay.at ≡ At j → Live n link g s forth r back
+  pub live_again : Direction link g s forth r back → (j : ℕ) → s.replay.at ≡ Some j → Live n link g s forth r back
       → Live n link g (replayed s j) (forth ++ (slot (replay_frame s j) ∷ [])) r back
   live_again i j at v =
       record { fresh = again-fresh i j at v.fresh; told = again-told j v.told (fresh-few v.fresh); shown = v.shown }
@@ -83,7 +81,7 @@ module _ {n : ℕ} {link : Setup} {g : Past} {s : Sender} {forth back : List Slo
         shown = nak-sent-shown (before_of r.reply.next_receive) v.shown;
       }
 
-  pub live_update : Direction link g s forth r back → (k : ℕ) → first_marked r ≡ At k → Live n link g s forth r back
+  pub live_update : Direction link g s forth r back → (k : ℕ) → first_marked r ≡ Some k → Live n link g s forth r back
       → Live n link g s forth (told r k) (back ++ (slot (update_frame r k) ∷ []))
   live_update i k first v =
       record { fresh = v.fresh; told = update_sent-told k v.told; shown = update_sent-shown i k first v.shown }

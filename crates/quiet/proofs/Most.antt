@@ -1,4 +1,5 @@
 -- The most that an end's burden can be, and the most that the frames on a line can weigh. Assumes nothing.
+use Rattle.std.specs.Prelude.{Some, None, Option, ℕ}
 use Prim.Native.Nat.{ℕ, zero, suc, ◌+◌, ◌*◌, ◌≤◌, ◌<◌}
 use mathlib.Core.Path.{◌≡◌}
 use mathlib.Core.Bool.{Bool}
@@ -7,8 +8,6 @@ use native.Mathlib.Nat.{le_refl, mul-suc}
 use native.Mathlib.Omega.{arith}
 use lib.ListN.{length}
 use Rattle.basics.specs.Lists.{filter}
-use Rattle.basics.specs.declared.Found.{Found}
-use Rattle.basics.specs.declared.Found.TheVariants.{At, Nothing}
 use Rattle.basics.proofs.Branches.{by_test}
 use Rattle.basics.proofs.Totals.{total-append}
 use Rattle.packets.specs.declared.Category.TheVariants.{Posted, NonPosted, Completion}
@@ -37,9 +36,9 @@ unfolding sum
 sum-most zero m f h = omega arith
 sum-most (suc n) m f h = rw (mul-suc m n) (omega (arith, sum-most n m f (λ j k. h j (omega arith)), h n (omega arith)))
 
-left-most : (x : Found) (len : ℕ) → left x len ≤ len
-left-most (At j) len = omega arith
-left-most Nothing len = omega arith
+left-most : (x : Option ℕ) (len : ℕ) → left x len ≤ len
+left-most (Some j) len = omega arith
+left-most None len = omega arith
 
 -- no more pass a test than there are
 count_most : {A : Type 0} (ok : A → Bool) (l : List A) → length (filter ok l) ≤ length l

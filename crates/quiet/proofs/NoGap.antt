@@ -1,6 +1,6 @@
 -- No event of a quiet round makes a gap among the fresh packets of a direction, and none of them is out of order.
 -- Assumes nothing.
-use Rattle.std.specs.Prelude.{if◌then◌else◌}
+use Rattle.std.specs.Prelude.{if◌then◌else◌, Some, None, Option, ℕ}
 use Prim.Native.Nat.{ℕ, zero, suc, pred, ◌+◌, ◌-◌, ◌%◌, ◌≤◌, ◌<◌, max}
 use mathlib.Core.Path.{◌≡◌, refl, sym, ap, ◌∙◌}
 use mathlib.Core.Logic.{◌≢◌}
@@ -12,8 +12,6 @@ use borrow.Author.Tests.{ltb-false, leb-true, eqb-true}
 use lib.Dec.{leb, ltb, eqb}
 use lib.ListN.{length, get_or, length-append}
 use lib.Seq.{get_or-drop, get_or-append_seam}
-use Rattle.basics.specs.declared.Found.{Found}
-use Rattle.basics.specs.declared.Found.TheVariants.{At, Nothing}
 use Rattle.basics.proofs.Branches.{by_test}
 use Rattle.counters.specs.declared.Seq.{Seq}
 use Rattle.counters.specs.Wrapped.{plus}
@@ -58,9 +56,9 @@ module _ {link : Setup} {g : Past} {s : Sender} {forth back : List Slot} {r : Re
   pub open_idle : s.buffer.len ≡ 0 → NoGap (length forth) g s forth
   open_idle none = fresh_open i.forth_ok (go s.replay.at refl)
     where
-      go : (f : Found) → s.replay.at ≡ f → upcoming f g.acked (length g.sent) ≤ g.got
-      go (At j) e = absurd (omega (arith, i.sending.replay_in_lem j e))
-      go Nothing e = omega (arith, i.sending.buffer_len, i.numbers)
+      go : (f : Option ℕ) → s.replay.at ≡ f → upcoming f g.acked (length g.sent) ≤ g.got
+      go (Some j) e = absurd (omega (arith, i.sending.replay_in_lem j e))
+      go None e = omega (arith, i.sending.buffer_len, i.numbers)
 
 -- ---- a packet goes onto the line
 
@@ -69,7 +67,7 @@ module _ {link : Setup} {g : Past} {s : Sender} {forth back : List Slot} {r : Re
   frame_is : (channel place : ℕ) → slot (new_frame s channel place) ≡ a_packet (g.sent ++ (new_packet s channel place ∷ [])) (length g.sent)
   frame_is channel place = rw (i.sending.next_is, get_or-append_seam g.sent (new_packet s channel place) [] no_packet)
 
-  pub new_fresh : {n : ℕ} (channel place : ℕ) → s.replay.at ≡ Nothing → NoGap n g s forth
+  pub new_fresh : {n : ℕ} (channel place : ℕ) → s.replay.at ≡ None → NoGap n g s forth
       → NoGap n (sending_one g (new_packet s channel place)) (sent_new s channel place) (forth ++ (slot (new_frame s channel place) ∷ []))
   new_fresh channel place rests f =
       let it = new_packet s channel place in
@@ -81,11 +79,11 @@ module _ {link : Setup} {g : Past} {s : Sender} {forth back : List Slot} {r : Re
   -- after one of a replay the next is the one after it, also when the replay ends: then all that was sent is sent again
   next-after : (j : ℕ) → j < s.buffer.len → upcoming (place_after j s.buffer.len) g.acked (length g.sent) ≡ suc (g.acked + j)
   next-after j h =
-      by_test (λ (f : Found). upcoming f g.acked (length g.sent) ≡ suc (g.acked + j)) (ltb (j + 1) s.buffer.len)
+      by_test (λ (f : Option ℕ). upcoming f g.acked (length g.sent) ≡ suc (g.acked + j)) (ltb (j + 1) s.buffer.len)
       (λ t. omega arith)
       (λ t. omega (arith, ltb-false (j + 1) s.buffer.len t, i.sending.buffer_len, i.numbers))
 
-  pub again-fresh : {n : ℕ} (j : ℕ) → s.replay.at ≡ At j → NoGap n g s forth → NoGap n g (replayed s j) (forth ++ (slot (replay_frame s j) ∷ []))
+  pub again-fresh : {n : ℕ} (j : ℕ) → s.replay.at ≡ Some j → NoGap n g s forth → NoGap n g (replayed s j) (forth ++ (slot (replay_frame s j) ∷ []))
   unfolding replayed plus
   again-fresh j e f =
       let inside : j < s.buffer.len = i.sending.replay_in_lem j e in
@@ -155,14 +153,14 @@ module _ {link : Setup} {g : Past} {s : Sender} {forth back : List Slot} {r : Re
       len_acknowledged s i.s_arrays number enough bound ∙ omega (arith, releases_are, low, high, i.numbers, i.sending.buffer_len)
 
   -- a running replay stays at its next packet, or goes on after those acknowledged
-  next-moved : (f : Found) → upcoming (moved (releases s number) (acknowledged s number).buffer.len f) v (length g.sent)
+  next-moved : (f : Option ℕ) → upcoming (moved (releases s number) (acknowledged s number).buffer.len f) v (length g.sent)
       ≤ max (upcoming f g.acked (length g.sent)) g.got
-  next-moved Nothing = omega arith
-  next-moved (At j) =
-      by_test (λ (f : Found). upcoming f v (length g.sent) ≤ max (g.acked + j) g.got) (leb (releases s number) j)
+  next-moved None = omega arith
+  next-moved (Some j) =
+      by_test (λ (f : Option ℕ). upcoming f v (length g.sent) ≤ max (g.acked + j) g.got) (leb (releases s number) j)
       (λ t. omega (arith, leb-true (releases s number) j t, releases_are, low))
       (λ t.
-      by_test (λ (f : Found). upcoming f v (length g.sent) ≤ max (g.acked + j) g.got) (eqb (acknowledged s number).buffer.len 0)
+      by_test (λ (f : Option ℕ). upcoming f v (length g.sent) ≤ max (g.acked + j) g.got) (eqb (acknowledged s number).buffer.len 0)
       (λ u. omega (arith, eqb-true (acknowledged s number).buffer.len 0 u, len_left, high))
       (λ u. omega (arith, high)))
 
@@ -190,5 +188,5 @@ heard-fresh {g = g} {s = s} nak i number v e low high f =
 -- ---- the line is empty and no replay runs: all that was sent is received
 
 pub rest-fresh : {n : ℕ} {link : Setup} {g : Past} {s : Sender} {back : List Slot} {r : Receiver} → Direction link g s [] r back → NoGap n g s []
-    → s.replay.at ≡ Nothing → g.got ≡ length g.sent
+    → s.replay.at ≡ None → g.got ≡ length g.sent
 rest-fresh i f e = omega (arith, rw e at (fresh-empty f), i.numbers.mid)

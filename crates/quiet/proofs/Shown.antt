@@ -1,5 +1,6 @@
 -- What the sender's limits will be, within a quiet round: each event keeps that a slot in use is marked, or that the last update on the line
 -- back has what is allocated. At rest the limits are what is allocated. Assumes nothing.
+use Rattle.std.specs.Prelude.{Some, None}
 use Prim.Native.Nat.{ℕ, ◌*◌, ◌≤◌, ◌<◌}
 use mathlib.Core.Path.{◌≡◌, refl, sym, ◌∙◌}
 use mathlib.Core.Logic.{inl, inr, ⊎_elim, ◌≢◌, by_cases}
@@ -10,7 +11,6 @@ use native.Mathlib.Omega.{arith}
 use lib.Dec.{eqb}
 use borrow.Author.Tests.{eq-eqb, ne_eqb, eqb-true}
 use Rattle.basics.specs.Lists.{all}
-use Rattle.basics.specs.declared.Found.TheVariants.{At, Nothing}
 use Rattle.basics.proofs.Branches.{and_left, and_right}
 use Rattle.counters.specs.declared.Counts.{Counts}
 use Rattle.counters.specs.declared.Seq.{Seq}
@@ -110,7 +110,7 @@ module _ {link : Setup} {g : Past} {r : Receiver} {back : List Slot} where
 -- ---- an update goes onto the line back: it has what is allocated
 
 module _ {link : Setup} {g : Past} {s : Sender} {forth back : List Slot} {r : Receiver} where
-  pub update_sent-shown : Direction link g s forth r back → (k : ℕ) → first_marked r ≡ At k → Shown link g r back
+  pub update_sent-shown : Direction link g s forth r back → (k : ℕ) → first_marked r ≡ Some k → Shown link g r back
       → Shown link g (told r k) (back ++ (slot (update_frame r k) ∷ []))
   unfolding update_frame
   update_sent-shown i k first o =
@@ -166,7 +166,7 @@ module _ {link : Setup} {g : Past} {s : Sender} {forth back : List Slot} {r : Re
 
 -- ---- at rest: nothing is marked, and nothing is on the line back
 
-pub rest-shown : {link : Setup} {g : Past} {r : Receiver} → Shown link g r [] → first_marked r ≡ Nothing
+pub rest-shown : {link : Setup} {g : Past} {r : Receiver} → Shown link g r [] → first_marked r ≡ None
     → (j : ℕ) → j < 3 * link.n → g.limit j ≡ allowed link g.taken j
 rest-shown {r = r} o none j h =
     ⊎_elim

@@ -1,6 +1,6 @@
 -- What the sender will be told is kept by each event of a quiet round, and at rest what is acknowledged is what is received.
 -- Assumes nothing.
-use Rattle.std.specs.Prelude.{if◌then◌else◌}
+use Rattle.std.specs.Prelude.{if◌then◌else◌, Some, None, Option, ℕ}
 use Prim.Native.Nat.{ℕ, pred, ◌-◌, ◌%◌, ◌≤◌}
 use mathlib.Core.Path.{◌≡◌, refl, sym, ap, ◌∙◌}
 use mathlib.Core.Logic.{◌≢◌}
@@ -11,8 +11,6 @@ use native.Mathlib.Nat.{le_refl}
 use borrow.Author.Tests.{eqb-true}
 use lib.Dec.{leb, eqb}
 use lib.ListN.{length}
-use Rattle.basics.specs.declared.Found.{Found}
-use Rattle.basics.specs.declared.Found.TheVariants.{At, Nothing}
 use Rattle.basics.proofs.Branches.{by_test}
 use Rattle.basics.proofs.Finds.{apart}
 use Rattle.counters.specs.declared.Counts.{Counts}
@@ -179,20 +177,20 @@ module _ {n : ℕ} {g : Past} {s : Sender} {forth back : List Slot} {r : Receive
 -- ---- an Ack or a Nak is heard
 
 -- a running replay ends only if nothing is left
-moved_ended : (k left i : ℕ) → moved k left (At i) ≡ Nothing → left ≡ 0
+moved_ended : (k left i : ℕ) → moved k left (Some i) ≡ None → left ≡ 0
 moved_ended k left i =
-    let P : Found → Type 0 = λ f. f ≡ Nothing → left ≡ 0 in
+    let P : Option ℕ → Type 0 = λ f. f ≡ None → left ≡ 0 in
     by_test P (leb k i)
     (λ t e. apart (i - k) (sym e))
     (λ t. by_test P (eqb left 0) (λ u e. eqb-true left 0 u) (λ u e. apart 0 (sym e)))
 
-replay_ended : (s : Sender) (number : Seq) (nak : Bool) (k : ℕ) → s.replay.at ≡ At k
-    → (if nak then again (acknowledged s number) else acknowledged s number).replay.at ≡ Nothing
+replay_ended : (s : Sender) (number : Seq) (nak : Bool) (k : ℕ) → s.replay.at ≡ Some k
+    → (if nak then again (acknowledged s number) else acknowledged s number).replay.at ≡ None
     → (if nak then again (acknowledged s number) else acknowledged s number).buffer.len ≡ 0
 unfolding acknowledged again
 replay_ended s number nak k runs =
     let t = acknowledged s number in
-    let P : Sender → Type 0 = λ x. x.replay.at ≡ Nothing → x.buffer.len ≡ 0 in
+    let P : Sender → Type 0 = λ x. x.replay.at ≡ None → x.buffer.len ≡ 0 in
     by_test P nak
     (λ u. by_test P (eqb t.buffer.len 0) (λ w e. eqb-true t.buffer.len 0 w) (λ w e. apart 0 (sym e ∙ begun-at t.replay)))
     (λ u e. moved_ended (releases s number) t.buffer.len k (rw runs at e))
@@ -215,14 +213,14 @@ module _ {n : ℕ} {link : Setup} {g : Past} {s : Sender} {forth back : List Slo
       record { z = o.z; said = rw same at heard.rest; most = o.most; last = λ q e f. go s.replay.at refl q e f }
     where
       -- no replay ran before, or it ends since all is acknowledged
-      go : (x : Found) → s.replay.at ≡ x → Silent n forth
-          → (if nak then again (acknowledged s number) else acknowledged s number).replay.at ≡ Nothing
+      go : (x : Option ℕ) → s.replay.at ≡ x → Silent n forth
+          → (if nak then again (acknowledged s number) else acknowledged s number).replay.at ≡ None
           → r.reply.owed ≡ Owed.Nothing → o.z ≡ g.got
-      go Nothing is q e f = o.last q is f
-      go (At k) is q e f =
+      go None is q e f = o.last q is f
+      go (Some k) is q e f =
           omega (arith, replay_ended s number nak k is e, h.keeps.sending.buffer_len, same, said-le heard.rest, o.most, h.high, i.numbers)
 
 -- ---- at rest
 
-pub rest-told : {g : Past} {s : Sender} {r : Receiver} → Told 0 g s [] r [] → s.replay.at ≡ Nothing → r.reply.owed ≡ Owed.Nothing → g.acked ≡ g.got
+pub rest-told : {g : Past} {s : Sender} {r : Receiver} → Told 0 g s [] r [] → s.replay.at ≡ None → r.reply.owed ≡ Owed.Nothing → g.acked ≡ g.got
 rest-told o e f = said-empty o.said ∙ o.last silent_end e f

@@ -1,5 +1,6 @@
 -- The packets untaken are those that wait at the receiver, are on the way, or wait to be sent. Of a direction at rest with some untaken the Takes
 -- take at least one. Assumes nothing.
+use Rattle.std.specs.Prelude.{None, Some}
 use Prim.Native.Nat.{ℕ, zero, suc, pred, ◌+◌, ◌-◌, ◌≤◌, ◌<◌}
 use mathlib.Core.Path.{◌≡◌, refl, sym, ap, ◌∙◌}
 use mathlib.Core.Logic.{by_cases}
@@ -10,7 +11,6 @@ use native.Mathlib.Omega.{arith}
 use native.Mathlib.Nat.{zero-add, not-suc-le-zero, le_refl, eq-or-lt_of_le, le_of_suc-le-suc}
 use mathlib.Core.Logic.{⊎_elim}
 use lib.ListN.{length, length-append}
-use Rattle.basics.specs.declared.Found.TheVariants.{Nothing}
 use Rattle.packets.specs.declared.Packet.{Packet}
 use Rattle.packets.specs.declared.Category.{Category}
 use Rattle.packets.specs.declared.Category.TheVariants.{Posted, NonPosted, Completion}
@@ -19,7 +19,6 @@ use Rattle.line.specs.declared.Slot.{Slot}
 use Rattle.setup.specs.declared.Setup.{Setup}
 use Rattle.setup.specs.Setup.{channels, in_range}
 use Rattle.sender.specs.declared.Sender.{Sender}
-use Rattle.sender.specs.declared.New.TheVariants as New
 use Rattle.sender.specs.Sender.{queue_at}
 use Rattle.sender.specs.Sources.{new_of}
 use Rattle.receiver.specs.declared.Receiver.{Receiver}
@@ -116,7 +115,7 @@ module _ {link : Setup} {g : Past} {s : Sender} {forth back : List Slot} {r : Re
 -- ---- at rest, and after the Takes: fewer are untaken, or none was
 
 module _ {link : Setup} {g g' : Past} {s : Sender} {r r' : Receiver} (ok : in_range link ≡ true) (i : Direction link g s [] r []) (l : Live 0 link g s [] r [])
-    (rests : s.replay.at ≡ Nothing) (none_owed : r.reply.owed ≡ Owed.Nothing) (unmarked : first_marked r ≡ Nothing) (idle : new_of s ≡ New.Nothing)
+    (rests : s.replay.at ≡ None) (none_owed : r.reply.owed ≡ Owed.Nothing) (unmarked : first_marked r ≡ None) (idle : new_of s ≡ None)
     (j : Direction link g' s [] r' []) (still : on_the_way g' ≡ []) (empty : (channel : ℕ) → channel < channels → held (inbox_at r' channel) ≡ []) where
   inboxes : ℕ
   inboxes = sum channels (λ channel. length (held (inbox_at r channel)))

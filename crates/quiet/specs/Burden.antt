@@ -1,9 +1,7 @@
 -- How many arrivals are still to come of what an end has and of what is on a line, where no replay starts: 2 for each packet, since its Ack
 -- comes back, and 1 for each link message. Assumes nothing.
-use Rattle.std.specs.Prelude.{ℕ, zero, suc, ◌+◌, ◌-◌, ◌*◌, List, length}
+use Rattle.std.specs.Prelude.{ℕ, zero, suc, ◌+◌, ◌-◌, ◌*◌, List, length, Some, None, Option}
 use Rattle.basics.specs.Lists.{total, filter}
-use Rattle.basics.specs.declared.Found.{Found}
-use Rattle.basics.specs.declared.Found.TheVariants.{At, Nothing}
 use Rattle.frames.specs.declared.Frame.{Frame}
 use Rattle.frames.specs.declared.Frame.TheVariants as Frame
 use Rattle.line.specs.declared.Slot.{Slot}
@@ -37,9 +35,9 @@ unfoldable pub queued : Sender → ℕ
 queued s = sum channels (λ channel. (queue_at s channel).len)
 
 -- packets left in a running replay
-abbrev pub left : Found → ℕ → ℕ
-left (At j) len = len - j
-left Nothing len = 0
+abbrev pub left : Option ℕ → ℕ → ℕ
+left (Some j) len = len - j
+left None len = 0
 
 abbrev pub owing : Owed → ℕ
 owing Owed.Nothing = 0

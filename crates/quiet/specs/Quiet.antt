@@ -1,8 +1,6 @@
 -- One direction within a quiet round: nothing is lost, damaged, submitted or taken. The first frames on a line may be from before the round
 -- (old); of the later ones (fresh) it is known that the packets leave no gap. Assumes nothing.
-use Rattle.std.specs.Prelude.{ℕ, zero, suc, ◌+◌, ◌*◌, ◌%◌, ◌≤◌, ◌<◌, max, ◌≡◌, ◌⊎◌, true, List, [], ◌∷◌, length}
-use Rattle.basics.specs.declared.Found.{Found}
-use Rattle.basics.specs.declared.Found.TheVariants.{At, Nothing}
+use Rattle.std.specs.Prelude.{ℕ, zero, suc, ◌+◌, ◌*◌, ◌%◌, ◌≤◌, ◌<◌, max, ◌≡◌, ◌⊎◌, true, List, [], ◌∷◌, length, Some, None, Option}
 use Rattle.counters.specs.declared.Counts.{Counts}
 use Rattle.counters.specs.declared.Seq.{Seq}
 use Rattle.counters.specs.Counters.{seq}
@@ -26,9 +24,9 @@ use Rattle.direction.specs.Direction.{Past, Direction}
 -- ---- no gap
 
 -- the number of the next packet that the sender will send: the replay's next, or a new one
-abbrev pub upcoming : Found → ℕ → ℕ → ℕ
-upcoming (At j) acked sent = acked + j
-upcoming Nothing acked sent = sent
+abbrev pub upcoming : Option ℕ → ℕ → ℕ → ℕ
+upcoming (Some j) acked sent = acked + j
+upcoming None acked sent = sent
 
 -- the first n frames are old. Each packet is the one sent as number t, and lies at most 16 behind `most`, as on any line. Of the fresh packets
 -- each number is at most b: what is received when it comes to its turn. `next`, the number of the next packet to be sent, is at most what is
@@ -63,7 +61,7 @@ pub record Told (n : ℕ) (g : Past) (s : Sender) (forth : List Slot) (r : Recei
   pub z : ℕ
   pub said : Said g.acked z back
   pub most : z ≤ g.got
-  pub last : Silent n forth → s.replay.at ≡ Nothing → r.reply.owed ≡ Owed.Nothing → z ≡ g.got
+  pub last : Silent n forth → s.replay.at ≡ None → r.reply.owed ≡ Owed.Nothing → z ≡ g.got
 
 -- ---- which limits the sender will have
 

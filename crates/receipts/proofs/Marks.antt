@@ -1,5 +1,6 @@
 -- What the marks of a receiving half do: an update that goes out, Refresh, the first marked update, and what its frame carries.
 -- Where it is said, its arrays have their lengths (`Arrays`), as every value of the code has. Assumes nothing else.
+use Rattle.std.specs.Prelude.{Some, None}
 use Prim.Native.Nat.{ℕ, ◌+◌, ◌-◌, ◌*◌, ◌/◌, ◌%◌, ◌<◌, ◌≤◌}
 use mathlib.Core.Path.{◌≡◌, refl, sym, ap, ◌∙◌}
 use mathlib.Core.Logic.{◌≢◌}
@@ -10,7 +11,6 @@ use borrow.Author.Tests.{lt-ltb, ltb-true, not-true, eqb-true, eqb-false}
 use lib.Dec.{ltb, eqb}
 use lib.ListN.{length, get_or, take, drop, get_or-map, get_or-append}
 use lib.Seq.{get_or-take, get_or-drop, get_or-append-add, get_or-set_same, get_or-set_other}
-use Rattle.basics.specs.declared.Found.TheVariants.{At, Nothing}
 use Rattle.basics.proofs.All.{all_past}
 use Rattle.basics.proofs.Branches.{by_test}
 use Rattle.basics.proofs.Each.{by_order_lem}
@@ -85,12 +85,12 @@ module _ (r : Receiver) (n : ℕ) where
 -- ---- the first marked update
 
 module _ (r : Receiver) where
-  pub first_marked_lem : Arrays r → (i : ℕ) → first_marked r ≡ At i → (i < per_end) × ((room_at r i).marked ≡ true)
+  pub first_marked_lem : Arrays r → (i : ℕ) → first_marked r ≡ Some i → (i < per_end) × ((room_at r i).marked ≡ true)
   first_marked_lem a i e =
       let f = found_first (room_of none) is_marked r.rooms i e in
       (omega (arith, f.0, a.rooms_are), f.1)
 
-  pub none-marked : first_marked r ≡ Nothing → (slot : ℕ) → (room_at r slot).marked ≡ false
+  pub none-marked : first_marked r ≡ None → (slot : ℕ) → (room_at r slot).marked ≡ false
   none-marked e slot =
       not-true _ (all_past (λ m. not (is_marked m)) r.rooms slot (room_of none) refl (found_nothing (room_of none) is_marked r.rooms 0 e))
 

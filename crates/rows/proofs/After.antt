@@ -4,7 +4,7 @@ use mathlib.Core.Path.{◌≡◌, refl, ◌∙◌}
 use mathlib.Core.List.{List, [], ◌∷◌, ◌++◌}
 use Rattle.script.specs.declared.Step.{Step}
 use Rattle.pairs.specs.declared.Pair.{Pair}
-use Rattle.pairs.specs.declared.Done.{Done}
+use Rattle.pairs.specs.Pairs.{Done}
 use Rattle.pairs.specs.Steps.{step_of}
 use Rattle.rows.specs.Rows.{after}
 use Rattle.rows.specs.Outcome.{Two, Outcome, refuses, does}

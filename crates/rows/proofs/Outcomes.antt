@@ -1,5 +1,6 @@
 -- Each of the eight steps is refused, and the pair stays as it was, or it is done.
 -- Assumes nothing.
+use Rattle.std.specs.Prelude.{Some, None, Option}
 use Prim.Native.Nat.{ℕ}
 use mathlib.Core.Path.{refl, sym, subst}
 use mathlib.Core.Logic.{⊎_elim, ◌≢◌}
@@ -12,19 +13,17 @@ use lib.Seq.{set-get_or}
 use Rattle.basics.proofs.Branches.{by_test}
 use Rattle.packets.specs.declared.Packet.{Packet}
 use Rattle.frames.specs.declared.Frame.{Frame}
-use Rattle.line.specs.declared.Front.{Front}
-use Rattle.line.specs.declared.Front.TheVariants as Front
 use Rattle.line.specs.Line.{is_full, front_of}
 use Rattle.setup.specs.Setup.{blank_setup}
 use Rattle.ends.specs.declared.End.{End}
-use Rattle.ends.specs.declared.Stepped.{Stepped}
-use Rattle.ends.specs.declared.Sent.{Sent}
+use Rattle.ends.specs.Ends.{Stepped}
+use Rattle.ends.specs.Sends.{Sent}
 use Rattle.ends.specs.Ends.{end_of, stepped, arrive_of, damage_of, timer_of, refresh_of}
 use Rattle.ends.specs.Sends.{send_of}
 use Rattle.script.specs.declared.Step.{Step}
 use Rattle.script.specs.Step.{formed}
 use Rattle.pairs.specs.declared.Pair.{Pair}
-use Rattle.pairs.specs.declared.Done.{Done}
+use Rattle.pairs.specs.Pairs.{Done}
 use Rattle.pairs.specs.Pairs.{done, end_at, line_at, other, by_end, carried, send_at, reached, on_front, reach_at, lose_at}
 use Rattle.pairs.specs.Steps.{packet_of, act, pair_in_shape, step_of}
 use Rattle.views.specs.Views.{Usual, usual, Submits, not_accepted, joins, Takes, not_handed, hands}
@@ -73,9 +72,9 @@ module _ (p : Pair) where
 
     -- ---- Send
 
-    carried_outcome : (s : Sent) (x : Front) → Outcome p (carried p i s x)
-    carried_outcome s Front.Nothing = refused 18 (λ z. omega arith)
-    carried_outcome s (Front.Frame f) =
+    carried_outcome : (s : Sent) (x : Option Frame) → Outcome p (carried p i s x)
+    carried_outcome s None = refused 18 (λ z. omega arith)
+    carried_outcome s (Some f) =
         by_test (Outcome p) (is_full (line_at p (other i))) (λ t. refused 17 (λ z. omega arith))
         (λ t. does (length-set p.ends i _) (length-set p.lines (other i) _))
 
@@ -85,9 +84,9 @@ module _ (p : Pair) where
 
     -- ---- the oldest frame on the line towards the end: Arrive, Damage, Lose
 
-    front_outcome : (x : Front) (found : Frame → Done) → ((f : Frame) → Outcome p (found f)) → Outcome p (on_front p x found)
-    front_outcome Front.Nothing found g = refused 19 (λ z. omega arith)
-    front_outcome (Front.Frame f) found g = g f
+    front_outcome : (x : Option Frame) (found : Frame → Done) → ((f : Frame) → Outcome p (found f)) → Outcome p (on_front p x found)
+    front_outcome None found g = refused 19 (λ z. omega arith)
+    front_outcome (Some f) found g = g f
 
     reached_outcome : (s : Stepped) → Outcome p (reached p i s)
     unfolding reached

@@ -1,5 +1,6 @@
 -- Take refuses, or hands out the oldest of its category, before which no posted packet waits.
 -- Assumes nothing.
+use Rattle.std.specs.Prelude.{Some, None, Option, ℕ}
 use Prim.Native.Nat.{ℕ, ◌≤◌, ◌<◌}
 use mathlib.Core.Path.{◌≡◌, refl, sym}
 use mathlib.Core.Bool.{Bool, true, false, not}
@@ -11,21 +12,17 @@ use lib.Dec.{leb, eqb}
 use lib.ListN.{take}
 use lib.Seq.{take-take}
 use Rattle.basics.specs.Lists.{all, find}
-use Rattle.basics.specs.declared.Found.{Found}
-use Rattle.basics.specs.declared.Found.TheVariants.{At, Nothing}
 use Rattle.basics.proofs.All.{all_take}
 use Rattle.basics.proofs.Branches.{by_test}
 use Rattle.basics.proofs.Finds.{found_first, found_nothing}
 use Rattle.packets.specs.declared.Packet.{Packet}
 use Rattle.packets.specs.declared.Category.{Category}
 use Rattle.packets.specs.declared.Category.TheVariants.{Posted}
-use Rattle.packets.specs.declared.Numbered.{Numbered}
-use Rattle.packets.specs.declared.Numbered.TheVariants as Numbered
 use Rattle.packets.specs.Packets.{number_of, numbered}
 use Rattle.store.specs.Store.{held, no_packet, is_of}
 use Rattle.setup.specs.Setup.{channels}
 use Rattle.receiver.specs.Receiver.{inbox_at}
-use Rattle.delivery.specs.declared.Got.{Got}
+use Rattle.delivery.specs.Delivery.{Got}
 use Rattle.delivery.specs.Delivery.{got, is_before, taken_at, taken_by, take_of}
 use Rattle.ends.specs.declared.End.{End}
 use Rattle.ends.specs.Ends.{by_receiver, take_at}
@@ -33,9 +30,9 @@ use Rattle.views.specs.Views.{usual, Takes, not_handed, hands}
 
 -- ---- the category of a number
 
-abbrev Names : ℕ → Numbered → Type 0
-Names k (Numbered.Category c) = number_of c ≡ k
-Names k Numbered.Nothing = 2 < k
+abbrev Names : ℕ → Option Category → Type 0
+Names k (Some c) = number_of c ≡ k
+Names k None = 2 < k
 
 names : (k : ℕ) → Names k (numbered k)
 names k =
@@ -49,9 +46,9 @@ module _ (ps : List Packet) (place : ℕ) where
   abbrev free : Packet → Bool
   free p = not (is_of Posted p)
 
-  none_before : (f : Found) → find (is_of Posted) ps 0 ≡ f → is_before f place ≡ false → all free (take place ps) ≡ true
-  none_before Nothing e t = all_take free place ps (found_nothing no_packet (is_of Posted) ps 0 e)
-  none_before (At i) e t =
+  none_before : (f : Option ℕ) → find (is_of Posted) ps 0 ≡ f → is_before f place ≡ false → all free (take place ps) ≡ true
+  none_before None e t = all_take free place ps (found_nothing no_packet (is_of Posted) ps 0 e)
+  none_before (Some i) e t =
       rw (take-take place i ps (ltb-false i place t)) at
       (all_take free place (take i ps) (found_first no_packet (is_of Posted) ps i e).2)
 
@@ -68,18 +65,18 @@ module _ (e : End) (channel category : ℕ) where
   refuses n low high = not_handed (usual low high)
 
   module _ (used : channel < e.setup.n) (here : channel < channels) where
-    of_category_lem : (c : Category) → number_of c ≡ category → (f : Found) → find (is_of c) waiting 0 ≡ f → Shown (taken_at e.receiver channel c f)
+    of_category_lem : (c : Category) → number_of c ≡ category → (f : Option ℕ) → find (is_of c) waiting 0 ≡ f → Shown (taken_at e.receiver channel c f)
     unfolding taken_at
-    of_category_lem c is Nothing found = refuses 21 (omega arith) (omega arith)
-    of_category_lem c is (At place) found =
+    of_category_lem c is None found = refuses 21 (omega arith) (omega arith)
+    of_category_lem c is (Some place) found =
         let f = found_first no_packet (is_of c) waiting place found in
         by_test Shown (is_before (find (is_of Posted) waiting 0) place)
         (λ t. refuses 22 (omega arith) (omega arith))
         (λ t. hands c place is used here f.0 f.1 f.2 (inr (none_before waiting place (find (is_of Posted) waiting 0) refl t)))
 
-    by_number : (x : Numbered) → Names category x → Shown (taken_by e.receiver channel x)
-    by_number (Numbered.Category c) is = of_category_lem c is (find (is_of c) waiting 0) refl
-    by_number Numbered.Nothing is = refuses 20 (omega arith) (omega arith)
+    by_number : (x : Option Category) → Names category x → Shown (taken_by e.receiver channel x)
+    by_number (Some c) is = of_category_lem c is (find (is_of c) waiting 0) refl
+    by_number None is = refuses 20 (omega arith) (omega arith)
 
   pub take_view : Takes e channel category (take_at e channel category)
   unfolding take_of

@@ -1,9 +1,7 @@
 -- What may come of Submit, Send and Take at one end: one case for each outcome, with what is known there.
 -- Assumes nothing.
-use Rattle.std.specs.Prelude.{ℕ, ◌≤◌, ◌<◌, ◌≡◌, true, not, ◌⊎◌, length, take}
+use Rattle.std.specs.Prelude.{ℕ, ◌≤◌, ◌<◌, ◌≡◌, true, not, ◌⊎◌, length, take, Some, None, Option}
 use Rattle.basics.specs.Lists.{all}
-use Rattle.basics.specs.declared.Found.{Found}
-use Rattle.basics.specs.declared.Found.TheVariants as Found
 use Rattle.counters.specs.Counters.{before_of}
 use Rattle.packets.specs.declared.Packet.{Packet}
 use Rattle.packets.specs.declared.Category.{Category}
@@ -12,18 +10,15 @@ use Rattle.packets.specs.Packets.{number_of, category_of, packet_answer, data_un
 use Rattle.frames.specs.declared.Frame.TheVariants as Frame
 use Rattle.frames.specs.declared.Message.TheVariants as Message
 use Rattle.store.specs.Store.{held, at, is_of, of_category}
-use Rattle.line.specs.declared.Front.TheVariants as Front
 use Rattle.setup.specs.Setup.{channels, units_at}
-use Rattle.sender.specs.declared.New.{New}
-use Rattle.sender.specs.declared.New.TheVariants as New
 use Rattle.sender.specs.Sender as S
 use Rattle.sender.specs.Sources.{replay_frame, replayed, new_of, new_frame, sent_new}
 use Rattle.receiver.specs.declared.Owed.TheVariants as Owed
 use Rattle.receiver.specs.Receiver as R
 use Rattle.delivery.specs.Delivery.{handed_out}
 use Rattle.ends.specs.declared.End.{End}
-use Rattle.ends.specs.declared.Stepped.{Stepped}
-use Rattle.ends.specs.declared.Sent.{Sent}
+use Rattle.ends.specs.Ends.{Stepped}
+use Rattle.ends.specs.Sends.{Sent}
 use Rattle.ends.specs.Ends.{end, stepped, channel_for}
 use Rattle.ends.specs.Sends.{sent, from_receiver, from_sender}
 
@@ -47,16 +42,16 @@ pub data Sends (e : End) : Sent → Type 0 where
       → Sends e (from_receiver e (R.cleared e.receiver) (Frame.Message (Message.Nak (before_of e.receiver.reply.next_receive))) 1)
   an_ack : e.receiver.reply.owed ≡ Owed.Ack
       → Sends e (from_receiver e (R.cleared e.receiver) (Frame.Message (Message.Ack (before_of e.receiver.reply.next_receive))) 2)
-  an_update : (i : ℕ) → e.receiver.reply.owed ≡ Owed.Nothing → R.first_marked e.receiver ≡ Found.At i
+  an_update : (i : ℕ) → e.receiver.reply.owed ≡ Owed.Nothing → R.first_marked e.receiver ≡ Some i
       → Sends e (from_receiver e (R.told e.receiver i) (R.update_frame e.receiver i) 3)
-  a_replay : (i : ℕ) → e.receiver.reply.owed ≡ Owed.Nothing → R.first_marked e.receiver ≡ Found.Nothing → e.sender.replay.at ≡ Found.At i
+  a_replay : (i : ℕ) → e.receiver.reply.owed ≡ Owed.Nothing → R.first_marked e.receiver ≡ None → e.sender.replay.at ≡ Some i
       → Sends e (from_sender e (replayed e.sender i) (replay_frame e.sender i) 4)
-  a_new : (channel place : ℕ) → e.receiver.reply.owed ≡ Owed.Nothing → R.first_marked e.receiver ≡ Found.Nothing → e.sender.replay.at ≡ Found.Nothing
-      → new_of e.sender ≡ New.At channel place
+  a_new : (channel place : ℕ) → e.receiver.reply.owed ≡ Owed.Nothing → R.first_marked e.receiver ≡ None → e.sender.replay.at ≡ None
+      → new_of e.sender ≡ Some (channel, place)
       → Sends e (from_sender e (sent_new e.sender channel place) (new_frame e.sender channel place) 5)
-  nothing : e.receiver.reply.owed ≡ Owed.Nothing → R.first_marked e.receiver ≡ Found.Nothing → e.sender.replay.at ≡ Found.Nothing
-      → new_of e.sender ≡ New.Nothing
-      → Sends e (sent e Front.Nothing 18 0)
+  nothing : e.receiver.reply.owed ≡ Owed.Nothing → R.first_marked e.receiver ≡ None → e.sender.replay.at ≡ None
+      → new_of e.sender ≡ None
+      → Sends e (sent e None 18 0)
 
 -- ---- Take
 
