@@ -1,154 +1,97 @@
-// The cases of a test program, a line of text for each: its numbers are handed out, and it is printed again with what came of it.
-// A line that starts with `#` says what the next ones are about, and has no numbers. `files` reads them, and the files that arguments name.
-// Assumes nothing.
+// The cases of a test program, a line of its input for each: the line is printed again, and behind it what came of its numbers.
+// A line that starts with `#` says what the next ones are about, and is no case. `files` reads what arguments name.
+// A read that fails ends what is read. Assumes nothing.
 #![tactic(auto)]
 
 mod files;
 
-ghost use Rattle.std.specs.Prelude.{◌<◌, length};
-
-use basics::both;
 pub use files::{MOST_BYTES, arg, read_path};
-pub use input::read_full;
+use input::read_full;
 use std::io;
 
-// The first twelve numbers of a line, 0 where it has fewer, and the place behind the line.
+// The first twelve numbers of a line, 0 where it has fewer. The first says what is done.
 #[derive(Clone, Copy)]
 pub struct Case {
-    pub numbers: [u64; 12],
-    pub next: usize,
-}
-
-// The numbers read so far, how many are complete, and whether another has begun.
-#[derive(Clone, Copy)]
-struct Reading {
     numbers: [u64; 12],
-    count: usize,
-    begun: bool,
 }
 
 // The number with one more digit. Numbers of up to 16 digits are whole.
 fn longer(n: u64, digit: u8) -> u64 {
-    (n % 1000000000000000) * 10 + (digit % 16) as u64
-}
-
-fn is_digit(c: u8) -> bool {
-    both(48 <= c, c <= 57)
-}
-
-fn with_digit(r: Reading, c: u8) -> Reading {
-    let count = r.count;
-    let mut numbers = r.numbers;
-    if count < 12 {
-        numbers[count] = longer(numbers[count], c);
-    }
-    Reading {
-        numbers,
-        count,
-        begun: true,
-    }
-}
-
-fn with_byte(r: Reading, c: u8) -> Reading {
-    if is_digit(c) {
-        return with_digit(r, c);
-    }
-    if !r.begun {
-        return r;
-    }
-    let numbers = r.numbers;
-    Reading {
-        numbers,
-        count: std::num::wrapping_add_usize(r.count, 1),
-        begun: false,
-    }
-}
-
-// Nothing is read of a comment: its numbers are already complete.
-fn begin(first: u8) -> Reading {
-    Reading {
-        numbers: [0; 12],
-        count: if first == b'#' { 12 } else { 0 },
-        begun: false,
-    }
-}
-
-// The numbers of the line at this place.
-fn numbers_at(b: &[u8], at: usize) -> Case
-    requires { at < length b.now }
-    ensures { at < result.next }
-{
-    let mut r = begin(b[at]);
-    let mut i = at;
-    while i < b.len() {
-        if b[i] == b'\n' {
-            break;
-        }
-        r = with_byte(r, b[i]);
-        i += 1;
-    }
-    let numbers = r.numbers;
-    Case {
-        numbers,
-        next: i + 1,
-    }
-}
-
-fn print_part(rt: &impl Print, b: &[u8], from: usize, to: usize) -> io::Result<()> {
-    if from <= to {
-        if to <= b.len() {
-            return rt.write_all(&b[from..to]);
-        }
-    }
-    Ok(())
-}
-
-// Reads the line at this place and prints it. Whether it can be printed changes nothing of what is read: where it cannot, `tell` says so.
-pub fn read(rt: &impl Print, b: &[u8], at: usize) -> Case
-    requires { at < length b.now }
-    ensures { at < result.next }
-{
-    let c = numbers_at(b, at);
-    let _ = print_part(rt, b, at, c.next - 1);
-    c
-}
-
-// What came of a case.
-pub fn tell(rt: &impl Print, answer: u64, detail: u64) -> io::Result<()> {
-    print!(rt; ": {answer}")?;
-    tell_more(rt, detail)
-}
-
-// One number more.
-pub fn tell_more(rt: &impl Print, n: u64) -> io::Result<()> {
-    print!(rt; " {n}")
-}
-
-pub fn end_line(rt: &impl Print) -> io::Result<()> {
-    println!(rt)
+    n % 1_000_000_000_000_000 * 10 + u64::from(digit % 16)
 }
 
 impl Case {
-    // A number of the line, counted from 0.
-    pub fn number(self, i: usize) -> u64 {
-        let numbers = self.numbers;
-        numbers[i % 12]
+    fn read(line: &[u8]) -> Case {
+        let mut numbers = [0; 12];
+        let words = line
+            .split(|c| !c.is_ascii_digit())
+            .filter(|word| !word.is_empty());
+        for (number, word) in numbers.iter_mut().zip(words) {
+            *number = word.iter().fold(0, |n, digit| longer(n, *digit));
+        }
+        Case { numbers }
     }
 
-    // The same in a type that is smaller, where it goes round.
-    pub fn word(self, i: usize) -> u32 {
-        (self.number(i) % 4294967296) as u32
+    // What is done, as a number; 0 is nothing. A program matches it where it does that: an enum of the codes would name each call a second time.
+    pub fn code(self) -> u64 {
+        self.numbers[0]
     }
 
-    pub fn short(self, i: usize) -> u16 {
-        (self.number(i) % 65536) as u16
+    // A number of the line, counted from 0, in a type that may be smaller, where it goes round.
+    pub fn number<T: Round>(self, i: usize) -> T {
+        T::round(self.numbers.get(i).copied().unwrap_or(0))
     }
+}
 
-    pub fn byte(self, i: usize) -> u8 {
-        (self.number(i) % 256) as u8
-    }
+// A type that a number of a line goes into.
+pub trait Round {
+    fn round(n: u64) -> Self;
+}
 
-    pub fn place(self, i: usize) -> usize {
-        self.number(i) as usize
+impl Round for u8 {
+    fn round(n: u64) -> u8 {
+        (n % 256) as u8
     }
+}
+
+impl Round for u16 {
+    fn round(n: u64) -> u16 {
+        (n % 65536) as u16
+    }
+}
+
+impl Round for u32 {
+    fn round(n: u64) -> u32 {
+        (n % 4294967296) as u32
+    }
+}
+
+impl Round for u64 {
+    fn round(n: u64) -> u64 {
+        n
+    }
+}
+
+impl Round for usize {
+    fn round(n: u64) -> usize {
+        n as usize
+    }
+}
+
+// Prints each line of the input, and behind a case what the closure prints of it. Whether a line can be printed again changes nothing.
+pub fn each<F: FnMut(Case) -> io::Result<()>>(rt: &HostRuntime, mut done: F) -> io::Result<()>
+    requires { F.IsAlwaysCallable done }
+{
+    let mut text = [0u8; MOST_BYTES];
+    let n = read_full(&mut rt.stdin(), &mut text);
+    for line in text[..n].split_inclusive(|c| *c == b'\n') {
+        let line = line.strip_suffix(b"\n").unwrap_or(line);
+        let _ = rt.write_all(line);
+        let case = Case::read(line);
+        if !line.starts_with(b"#") && case.code() != 0 {
+            done(case)?;
+        }
+        println!(rt)?;
+    }
+    Ok(())
 }

@@ -4,8 +4,10 @@
 // Assumes nothing.
 #![tactic(auto)]
 
+ghost use Rattle.std.specs.Prelude.{◌≤◌, length};
+
 use cases::Case;
-use script::Written;
+use script::{FRAME, MOST_STEPS, Rejection};
 use setup::Setup;
 use std::env::Env;
 use std::io;
@@ -13,47 +15,41 @@ use std::rt::Files;
 
 // How many of the first bytes are the same.
 fn same(a: &[u8], b: &[u8]) -> usize {
-    let mut i = 0;
-    while i < a.len() {
-        if i >= b.len() {
-            return i;
-        }
-        if a[i] != b[i] {
-            return i;
-        }
-        i += 1;
-    }
-    i
+    a.iter().zip(b).take_while(|(x, y)| *x == *y).count()
 }
 
-// What the writer answers.
-fn tell(rt: &impl Print, w: Written) -> io::Result<()> {
-    cases::tell(rt, w.answer as u64, w.place as u64)
+// What the reader or the writer answers, and the place.
+fn tell<T: Copy>(rt: &impl Print, outcome: Result<T, Rejection>) -> io::Result<()> {
+    match outcome {
+        Ok(_) => print!(rt; ": 0 0"),
+        Err(r) => print!(rt; ": {} {}", r.refusal.number(), r.place),
+    }
 }
 
 // Writes steps, and tells how many bytes are written and how many are as they were.
 fn write_again(rt: &impl Print, s: Setup, l: &[u32], count: usize, b: &[u8]) -> io::Result<()> {
-    let mut out = [0u8; 65528];
+    let mut out = [0u8; FRAME + 12 * MOST_STEPS];
     let w = script::write_script(s, l, count, &mut out);
     tell(rt, w)?;
-    cases::tell_more(rt, w.length as u64)?;
-    cases::tell_more(rt, same(b, &out) as u64)
+    print!(rt; " {} {}", w.unwrap_or(0), same(b, &out))
 }
 
 // Reads a script and, unless it is refused, writes its steps again.
 fn show(rt: &impl Print, b: &[u8]) -> io::Result<()> {
-    let mut list = [0u32; 32706];
+    let mut list = [0u32; 6 * MOST_STEPS];
     let r = script::read_script(b, &mut list);
-    cases::tell(rt, r.answer as u64, r.place as u64)?;
-    if r.answer == 0 {
-        cases::tell_more(rt, r.count as u64)?;
-        return write_again(rt, r.setup, &list, r.count, b);
+    tell(rt, r)?;
+    if let Ok(script) = r {
+        print!(rt; " {}", script.count)?;
+        write_again(rt, script.setup, &list, script.count, b)?;
     }
     Ok(())
 }
 
 // Reads the file that an argument names.
-fn read_file(rt: &(impl Env + Files + Eprint), i: usize, buf: &mut [u8]) -> usize {
+fn read_file(rt: &(impl Env + Files + Eprint), i: usize, buf: &mut [u8]) -> usize
+    ensures { result ≤ length buf.new }
+{
     let mut path = [0u8; 4096];
     let length = cases::arg(rt, i, &mut path);
     cases::read_path(rt, &path[..length], buf)
@@ -62,82 +58,62 @@ fn read_file(rt: &(impl Env + Files + Eprint), i: usize, buf: &mut [u8]) -> usiz
 fn show_file(rt: &(impl Print + Env + Files + Eprint), i: usize) -> io::Result<()> {
     let mut buf = [0u8; cases::MOST_BYTES];
     let n = read_file(rt, i, &mut buf);
-    if n <= cases::MOST_BYTES {
-        return show(rt, &buf[0..n]);
-    }
-    Ok(())
+    show(rt, &buf[..n])
 }
 
 // Reads Listing A into the first numbers of a list. It has 10 steps, 60 numbers and 236 bytes.
-fn read_into(rt: &impl Print, b: &[u8; 236], room: usize) -> io::Result<()> {
+fn read_into(rt: &impl Print, b: &[u8], room: usize) -> io::Result<()> {
     let mut list = [0u32; 60];
-    if room <= 60 {
-        let r = script::read_script(b, &mut list[0..room]);
-        return cases::tell(rt, r.answer as u64, r.place as u64);
+    if let Some(lent) = list.get_mut(..room) {
+        tell(rt, script::read_script(b, lent))?;
     }
     Ok(())
 }
 
 // Reads Listing A with one byte changed.
 fn spoil(rt: &impl Print, b: &[u8; 236], at: usize, value: u8) -> io::Result<()> {
-    let mut c = *b;
-    if at < 236 {
-        c[at] = value;
+    let mut changed = *b;
+    if let Some(byte) = changed.get_mut(at) {
+        *byte = value;
     }
-    read_into(rt, &c, 60)
+    read_into(rt, &changed, 60)
 }
 
 // Writes so many steps of a list to the first bytes of a buffer.
-fn write(rt: &impl Print, s: Setup, l: &[u32; 60], count: usize, room: usize) -> io::Result<()> {
+fn write(rt: &impl Print, s: Setup, l: &[u32], count: usize, room: usize) -> io::Result<()> {
     let mut out = [0u8; 236];
-    if room <= 236 {
-        return tell(rt, script::write_script(s, l, count, &mut out[0..room]));
+    match out.get_mut(..room) {
+        Some(lent) => tell(rt, script::write_script(s, l, count, lent)),
+        None => Ok(()),
     }
-    Ok(())
 }
 
 // Writes the steps of Listing A with one number changed.
-fn spoil_number(rt: &impl Print, b: &[u8; 236], c: Case) -> io::Result<()> {
+fn spoil_number(rt: &impl Print, b: &[u8], c: Case) -> io::Result<()> {
     let mut list = [0u32; 60];
     let r = script::read_script(b, &mut list);
-    let at = c.place(4);
-    if at < 60 {
-        list[at] = c.word(5);
+    if let Some(number) = list.get_mut(c.number::<usize>(4)) {
+        *number = c.number(5);
     }
-    let link = if c.number(3) == 0 {
-        Setup::blank()
-    } else {
-        r.setup
+    let link = match r {
+        Ok(script) if c.number::<u64>(3) != 0 => script.setup,
+        _ => Setup::blank(),
     };
-    write(rt, link, &list, c.place(1), c.place(2))
+    write(rt, link, &list, c.number(1), c.number(2))
 }
 
 fn done(rt: &(impl Print + Env + Files + Eprint), b: &[u8; 236], c: Case) -> io::Result<()> {
-    match c.number(0) {
-        0 => Ok(()),
-        1 => show_file(rt, c.place(1)),
-        2 => spoil(rt, b, c.place(1), c.byte(2)),
-        3 => read_into(rt, b, c.place(1)),
+    match c.code() {
+        1 => show_file(rt, c.number(1)),
+        2 => spoil(rt, b, c.number(1), c.number(2)),
+        3 => read_into(rt, b, c.number(1)),
         _ => spoil_number(rt, b, c),
     }
 }
 
-fn lines(rt: &(impl Print + Env + Files + Eprint), b: &[u8; 236], text: &[u8]) -> io::Result<()> {
-    let mut at = 0;
-    while at < text.len() {
-        let c = cases::read(rt, text, at);
-        done(rt, b, c)?;
-        cases::end_line(rt)?;
-        at = c.next;
-    }
-    Ok(())
-}
-
 // Listing A is argument 16.
 fn main(rt: HostRuntime) -> io::Result<()> {
-    let mut b = [0u8; 236];
-    read_file(&rt, 16, &mut b);
-    let mut text = [0u8; cases::MOST_BYTES];
-    let n = cases::read_full(&mut rt.stdin(), &mut text);
-    lines(&rt, &b, &text[..n])
+    let mut listing = [0u8; 236];
+    read_file(&rt, 16, &mut listing);
+    cases::each(&rt, |case| done(&rt, &listing, case))
 }

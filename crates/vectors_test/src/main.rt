@@ -1,185 +1,104 @@
 // Runs each script that an argument names and holds its listing, line by line, to the stored one that the next
-// argument names. Prints which scripts have the same listing, or the first line that differs.
+// argument names. Prints which scripts have the same listing, or the first line that differs. It takes the steps
+// one by one (`Run::advance`), where the program `run` takes them all at once (`run_listing`), so each has its own loop over the lines.
 // Assumes nothing.
 #![tactic(auto)]
 
+ghost use Rattle.std.specs.Prelude.{◌≤◌, length};
+
+use answers::answer_of;
 use listing::LONGEST;
 use pairs::Pair;
 use runs::Run;
-use script::MOST_STEPS;
-use setup::Setup;
+use script::{MOST_STEPS, Rejection};
 use std::env::{Env, FillError};
 use std::io;
 use std::rt::Files;
 
-// The numbers of the longest script's steps, six for each.
-const NUMBERS: usize = 6 * MOST_STEPS;
-
-// How far a stored listing is as expected: the place of the next line, its number from 1, and
-// whether a line differed.
-#[derive(Clone, Copy)]
-struct Place {
-    at: usize,
+// What is left of a stored listing, and the number of its next line, from 1.
+#[derive(Drop)]
+struct Stored<'a> {
+    rest: &'a [u8],
     line: u32,
-    differs: bool,
 }
 
-fn print(rt: &impl Print, text: &[u8]) -> io::Result<()> {
-    rt.write_all(text)
+// The first line that is not as expected.
+#[derive(Clone, Copy)]
+struct Differs {
+    line: u32,
 }
 
-fn print_number(rt: &impl Print, n: u32) -> io::Result<()> {
-    print!(rt; "{n}")
-}
-
-// Whether the bytes begin with this line.
-fn begins(b: &[u8], line: &[u8]) -> bool {
-    let mut i = 0;
-    while i < line.len() {
-        if i >= b.len() {
-            return false;
-        }
-        if b[i] != line[i] {
-            return false;
-        }
-        i += 1;
+impl<'a> Stored<'a> {
+    // Goes behind this line, if it is the next one.
+    fn pass(&mut self, line: &[u8]) -> Result<(), Differs> {
+        let Some(rest) = self.rest.strip_prefix(line) else {
+            return Err(Differs { line: self.line });
+        };
+        self.rest = rest;
+        self.line = self.line.wrapping_add(1);
+        Ok(())
     }
-    true
+
+    // Nothing may stand behind the last line.
+    fn close(&self) -> Result<(), Differs> {
+        if self.rest.is_empty() {
+            Ok(())
+        } else {
+            Err(Differs { line: self.line })
+        }
+    }
+
+    fn pass_refused(&mut self, r: Rejection) -> Result<(), Differs> {
+        let mut line = [0u8; LONGEST];
+        let place = u32::try_from(r.place).unwrap_or(u32::MAX);
+        let n = listing::refused_line(&mut line, u32::from(r.refusal.number()), place);
+        self.pass(&line[..n])
+    }
+
+    // Runs so many steps one by one, and goes behind a line for each.
+    fn pass_steps(&mut self, start: Run, l: &[u32], count: usize) -> Result<Run, Differs> {
+        let mut line = [0u8; LONGEST];
+        let n = listing::header_line(&mut line);
+        self.pass(&line[..n])?;
+        let mut run = start;
+        for (index, i) in (0u32..).zip(0..count) {
+            let outcome = run.advance(runs::step_from(l, i));
+            let answer = u32::from(answer_of(outcome));
+            let (state, detail) = outcome.map_or((run, 0), |x| (x.state, x.detail));
+            let n = listing::step_line(&mut line, index, answer, detail);
+            self.pass(&line[..n])?;
+            run = state;
+        }
+        Ok(run)
+    }
+
+    fn pass_ends(&mut self, run: Run) -> Result<(), Differs> {
+        let mut line = [0u8; LONGEST];
+        for k in 0..2usize {
+            let retrains = u32::from(run.pair.ends[k].sender.replay.retrains.0);
+            let n = listing::end_line(&mut line, k as u32, run.accepted[k], run.taken[k], retrains);
+            self.pass(&line[..n])?;
+        }
+        Ok(())
+    }
 }
 
-fn first_line() -> Place {
-    Place {
-        at: 0,
+// Holds a script's listing to the stored one.
+fn compared(script: &[u8], listing: &[u8]) -> Result<(), Differs> {
+    let mut stored = Stored {
+        rest: listing,
         line: 1,
-        differs: false,
+    };
+    let mut numbers = [0u32; 6 * MOST_STEPS];
+    match script::read_script(script, &mut numbers) {
+        Ok(script) => {
+            let start = Run::start(Pair::of(script.setup));
+            let run = stored.pass_steps(start, &numbers, script.count)?;
+            stored.pass_ends(run)?;
+        }
+        Err(r) => stored.pass_refused(r)?,
     }
-}
-
-fn differing(p: Place) -> Place {
-    Place {
-        at: p.at,
-        line: p.line,
-        differs: true,
-    }
-}
-
-// The place behind this line, if it stands in the stored listing.
-fn behind(p: Place, stored: &[u8], line: &[u8]) -> Place {
-    if p.differs {
-        return p;
-    }
-    let at = p.at;
-    if at > stored.len() {
-        return differing(p);
-    }
-    if stored.len() - at < line.len() {
-        return differing(p);
-    }
-    if !begins(&stored[at..], line) {
-        return differing(p);
-    }
-    Place {
-        at: at + line.len(),
-        line: std::num::wrapping_add_u32(p.line, 1),
-        differs: false,
-    }
-}
-
-// The same for the first n bytes.
-fn behind_start(p: Place, stored: &[u8], out: &[u8], n: usize) -> Place {
-    if n > out.len() {
-        return differing(p);
-    }
-    behind(p, stored, &out[0..n])
-}
-
-// Nothing may stand behind the last line.
-fn closed(p: Place, stored: &[u8]) -> Place {
-    if p.at != stored.len() {
-        return differing(p);
-    }
-    p
-}
-
-fn behind_header(stored: &[u8]) -> Place {
-    let mut line = [0u8; LONGEST];
-    let n = listing::header_line(&mut line);
-    behind_start(first_line(), stored, &line, n)
-}
-
-fn behind_step(p: Place, stored: &[u8], index: u32, answer: u32, detail: u32) -> Place {
-    let mut line = [0u8; LONGEST];
-    let n = listing::step_line(&mut line, index, answer, detail);
-    behind_start(p, stored, &line, n)
-}
-
-fn wide(x: u16) -> u32 {
-    x as u32
-}
-
-fn behind_end(p: Place, stored: &[u8], run: Run, i: usize) -> Place {
-    let mut line = [0u8; LONGEST];
-    let k = i % 2;
-    let both = run.pair;
-    let e = both.ends[k];
-    let retrains = wide(e.sender.replay.retrains.0);
-    let n = listing::end_line(&mut line, k as u32, run.accepted[k], run.taken[k], retrains);
-    behind_start(p, stored, &line, n)
-}
-
-fn behind_refused(stored: &[u8], answer: u8, place: usize) -> Place {
-    let mut line = [0u8; LONGEST];
-    let n = listing::refused_line(&mut line, answer as u32, (place % 4294967296) as u32);
-    behind_start(first_line(), stored, &line, n)
-}
-
-// Runs the steps and holds a line for each, and the two end lines, to the stored listing.
-fn behind_run(start: Run, l: &[u32], count: usize, stored: &[u8]) -> Place {
-    let mut p = behind_header(stored);
-    let mut run = start;
-    let mut i = 0;
-    while i < count {
-        let a = run.advance(runs::step_from(l, i));
-        p = behind_step(
-            p,
-            stored,
-            (i % 4294967296) as u32,
-            a.answer as u32,
-            a.detail,
-        );
-        run = a.run;
-        i += 1;
-    }
-    let q = behind_end(p, stored, run, 0);
-    behind_end(q, stored, run, 1)
-}
-
-fn behind_steps(link: Setup, l: &[u32], count: usize, stored: &[u8]) -> Place {
-    let started = Pair::start(link);
-    let pair = started.pair;
-    behind_run(Run::start(pair), l, count, stored)
-}
-
-// The whole listing of a script's bytes.
-fn behind_script(script: &[u8], stored: &[u8]) -> Place {
-    let mut numbers = [0u32; NUMBERS];
-    let got = script::read_script(script, &mut numbers);
-    if got.answer != 0 {
-        return closed(behind_refused(stored, got.answer, got.place), stored);
-    }
-    closed(behind_steps(got.setup, &numbers, got.count, stored), stored)
-}
-
-// Prints what came of a script, and answers how many differ.
-fn reported(rt: &impl Print, p: Place) -> io::Result<u32> {
-    if !p.differs {
-        print(rt, b" same\n")?;
-        return Ok(0);
-    }
-    print(rt, b" differs at line ")?;
-    print_number(rt, p.line)?;
-    print(rt, b"\n")?;
-    Ok(1)
+    stored.close()
 }
 
 // How many arguments there are, the program's own name among them.
@@ -194,7 +113,9 @@ fn arg_count(rt: &impl Env) -> usize {
 }
 
 // Reads the file that an argument names. Nothing is read of one that cannot be opened.
-fn read_file(rt: &(impl Env + Files + Eprint), i: usize, buf: &mut [u8]) -> usize {
+fn read_file(rt: &(impl Env + Files + Eprint), i: usize, buf: &mut [u8]) -> usize
+    ensures { result ≤ length buf.new }
+{
     let mut path = [0u8; 4096];
     let length = cases::arg(rt, i, &mut path);
     cases::read_path(rt, &path[..length], buf)
@@ -204,45 +125,31 @@ fn read_file(rt: &(impl Env + Files + Eprint), i: usize, buf: &mut [u8]) -> usiz
 fn print_path(rt: &(impl Env + Print), i: usize) -> io::Result<()> {
     let mut path = [0u8; 4096];
     let length = cases::arg(rt, i, &mut path);
-    print(rt, &path[..length])
+    rt.write_all(&path[..length])
 }
 
-// Holds the first n bytes, a script, to the listing that argument i names.
-fn compared(
-    rt: &(impl Env + Files + Print + Eprint),
-    script: &[u8],
-    n: usize,
-    i: usize,
-) -> io::Result<u32> {
-    let mut stored = [0u8; cases::MOST_BYTES];
-    let m = read_file(rt, i, &mut stored);
-    if n <= script.len() {
-        if m <= cases::MOST_BYTES {
-            return reported(rt, behind_script(&script[0..n], &stored[0..m]));
-        }
-    }
-    Ok(1)
-}
-
-// Reads the script that argument i names, and holds it to the listing that argument j names.
-fn compared_files(rt: &(impl Env + Files + Print + Eprint), i: usize, j: usize) -> io::Result<u32> {
+// Prints what comes of the script that argument i names and the listing that argument j names, and answers whether they agree.
+fn agree(rt: &(impl Env + Files + Print + Eprint), i: usize, j: usize) -> io::Result<bool> {
     print_path(rt, i)?;
     let mut script = [0u8; cases::MOST_BYTES];
     let n = read_file(rt, i, &mut script);
-    compared(rt, &script, n, j)
+    let mut listing = [0u8; cases::MOST_BYTES];
+    let m = read_file(rt, j, &mut listing);
+    let compared = compared(&script[..n], &listing[..m]);
+    match compared {
+        Ok(()) => println!(rt; " same")?,
+        Err(Differs { line }) => println!(rt; " differs at line {line}")?,
+    }
+    Ok(compared.is_ok())
 }
 
 fn main(rt: HostRuntime) -> io::Result<()> {
     let scripts = arg_count(&rt) / 2;
     let mut differ = 0u32;
-    let mut k = 0;
-    while k < scripts {
-        let one = compared_files(&rt, 2 * k + 1, 2 * k + 2)?;
-        differ = std::num::wrapping_add_u32(differ, one);
-        k += 1;
+    for k in 0..scripts {
+        if !agree(&rt, 2 * k + 1, 2 * k + 2)? {
+            differ = differ.wrapping_add(1);
+        }
     }
-    print!(rt; "{scripts}")?;
-    print(&rt, b" scripts, ")?;
-    print_number(&rt, differ)?;
-    print(&rt, b" differ\n")
+    println!(rt; "{scripts} scripts, {differ} differ")
 }

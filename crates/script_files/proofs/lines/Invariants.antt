@@ -1,7 +1,0 @@
--- `script_files::lines` is safe and ends: the measure is what is left of the text.
--- Assumes nothing.
-use Rattle.std.proofs.Common.{◌-◌, length}
-use Rattle.script_files.proofs.lines.Given as goal
-
-abbrev pub decreases-loop-at : goal.decreases-loop-at
-decreases-loop-at g l = length l.text - l.at
