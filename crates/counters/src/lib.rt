@@ -49,25 +49,26 @@ pub trait Wrapped: Copy {
         requires { n < RANGE }
         ensures { result ≡ storing n };
 
-    final fn start() -> Self
-        ensures { result ≡ storing 0 }
-    {
-        Self::of(0)
-    }
-
-    final fn add(self, n: Self) -> Self
+    // By the remainder; a counter that takes all of its type wraps by itself.
+    fn add(self, n: Self) -> Self
         ensures { result ≡ storing (plus RANGE (stored self) (stored n)) }
     {
         let sum = u32::from(self.number()) + u32::from(n.number());
         Self::of((sum % u32::from(Self::RANGE)) as u16)
     }
 
-    final fn sub(self, n: Self) -> Self
+    fn sub(self, n: Self) -> Self
         ensures { result ≡ storing (minus RANGE (stored self) (stored n)) }
     {
         let range = u32::from(Self::RANGE);
         let ahead = u32::from(self.number()) + (range - u32::from(n.number()) % range);
         Self::of((ahead % range) as u16)
+    }
+
+    final fn start() -> Self
+        ensures { result ≡ storing 0 }
+    {
+        Self::of(0)
     }
 
     // Does this lie at most so far ahead of the other?
@@ -123,6 +124,14 @@ impl Wrapped for Header {
 
     fn of(n: u16) -> Header {
         Header(n as u8)
+    }
+
+    fn add(self, n: Header) -> Header {
+        Header(self.0.wrapping_add(n.0))
+    }
+
+    fn sub(self, n: Header) -> Header {
+        Header(self.0.wrapping_sub(n.0))
     }
 }
 
