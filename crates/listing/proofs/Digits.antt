@@ -1,9 +1,7 @@
 -- Laws of a number's digits: how they go on from those of the tenth, how many there are, and that they are the number.
 -- Assumes nothing.
-use Prim.Native.Nat.{ℕ, zero, suc, ◌+◌, ◌-◌, ◌*◌, ◌/◌, ◌%◌, ◌^◌, ◌≤◌, ◌<◌}
-use Rattle.std.specs.Fmt.{decimal}
-use Rattle.std.proofs.lemmas.Fmt.{AppendsLastDigit, decimal_from_appends, length-decimal-le, length-decimal-le_succ}
-use mathlib.Core.Path.{◌≡◌, refl, sym}
+use Prim.Native.Nat.{ℕ, zero, suc, ◌+◌, ◌-◌, ◌*◌, ◌/◌, ◌%◌, ◌≤◌, ◌<◌}
+use mathlib.Core.Path.{◌≡◌, refl}
 use mathlib.Core.List.{List, [], ◌∷◌, ◌++◌}
 use native.Mathlib.Nat.{not-suc-le-zero}
 use native.Mathlib.Omega.{arith}
@@ -52,36 +50,40 @@ length_more n h = rw (digits_more n h, length-append)
 pub some_digits : (n : ℕ) → 1 ≤ length (digits n)
 some_digits n = by_order_lem n 10 (λ (s : n < 10). omega (arith, length_one n s)) (λ (s : 10 ≤ n). omega (arith, length_more n s))
 
--- ---- the digits are std's
+-- the number without its last k digits
+unfoldable without : ℕ → ℕ → ℕ
+without zero n = n
+without (suc k) n = without k (n / 10)
 
-front_and_last : AppendsLastDigit digits_within
-unfolding digits_within
-front_and_last = record { one = λ k n h. rw (lt-ltb n 10 h); more = λ k n h. rw (le-ltb n 10 h) }
-
-pub decimal_digits : (n : ℕ) → n < 2 ^ 64 → decimal n ≡ digits n
-unfolding digits
-decimal_digits n h = sym (decimal_from_appends digits_within front_and_last (suc n) n h (omega (arith, length-decimal-le_succ n h)))
+length-within : (k n : ℕ) → without k n < 10 → length (digits n) ≤ k + 1
+unfolding without
+length-within zero n h = omega (arith, length_one n h)
+length-within (suc k) n h =
+    by_order_lem n 10
+    (λ (s : n < 10). omega (arith, length_one n s))
+    (λ (s : 10 ≤ n). omega (arith, length_more n s, length-within k (n / 10) h))
 
 -- a number of 32 bits has at most ten
 pub at-most_ten : (n : ℕ) → n < 4294967296 → length (digits n) ≤ 10
-at-most_ten n h = rw (← decimal_digits n (omega arith)) (length-decimal-le 10 n (omega arith) (omega arith) (omega arith))
+unfolding without
+at-most_ten n h = length-within 9 n (omega arith)
+
+length-least : (k n : ℕ) → 0 < without k n → k + 1 ≤ length (digits n)
+unfolding without
+length-least zero n h = omega (arith, some_digits n)
+length-least (suc k) n h =
+    by_order_lem n 10
+    (λ (s : n < 10). let z : n / 10 ≡ 0 = omega arith in absurd (omega (arith, none k, rw z at h)))
+    (λ (s : 10 ≤ n). omega (arith, length_more n s, length-least k (n / 10) h))
+  where
+    none : (k : ℕ) → without k 0 ≡ 0
+    none zero = refl
+    none (suc k) = none k
 
 -- and the greatest has ten
 pub ten_digits : length (digits 4294967295) ≡ 10
-ten_digits =
-    omega (
-      arith,
-      length_more 4294967295 (omega arith),
-      length_more 429496729 (omega arith),
-      length_more 42949672 (omega arith),
-      length_more 4294967 (omega arith),
-      length_more 429496 (omega arith),
-      length_more 42949 (omega arith),
-      length_more 4294 (omega arith),
-      length_more 429 (omega arith),
-      length_more 42 (omega arith),
-      length_one 4 (omega arith),
-    )
+unfolding without
+ten_digits = omega (arith, at-most_ten 4294967295 (omega arith), length-least 9 4294967295 (omega arith))
 
 -- ---- the digits are the number
 

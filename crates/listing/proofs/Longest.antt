@@ -5,9 +5,9 @@ use mathlib.Core.Path.{◌≡◌}
 use mathlib.Core.List.{List, ◌++◌}
 use native.Mathlib.Omega.{arith}
 use lib.ListN.{length, drop, length-append}
-use borrow.Author.Tests.{le-leb}
 use Rattle.listing.specs.Listing.{after, end_line, header_line, longest, refused_line, step_line, written}
 use Rattle.listing.proofs.Digits.{at-most_ten, ten_digits}
+use Rattle.listing.proofs.Placed.{line-written}
 
 abbrev pub Fits : ℕ → Type 0
 Fits n = n < 4294967296
@@ -38,7 +38,4 @@ one_so_long = simp (end_line, length-append, ten_digits)
 
 pub room_enough : (line w : List ℕ) → length line ≤ longest → longest ≤ length w
     → (written line w ≡ length line) × (after line w ≡ line ++ drop (length line) w)
-unfolding written after
-room_enough line w h k =
-    let fits : length line ≤ length w = omega arith in
-    (simp (written, le-leb _ _ fits), simp (after, le-leb _ _ fits))
+room_enough line w h k = line-written line w (omega arith)

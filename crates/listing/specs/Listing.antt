@@ -1,6 +1,6 @@
 -- The listing's text: numbers in decimal, and each line as its bytes.
 -- Assumes nothing.
-use Rattle.std.specs.Prelude.{ℕ, zero, suc, ◌+◌, ◌/◌, ◌%◌, List, [], ◌∷◌, ◌++◌, leb, ltb, length, drop, if◌then◌else◌}
+use Rattle.std.specs.Prelude.{ℕ, zero, suc, ◌+◌, ◌/◌, ◌%◌, List, [], ◌∷◌, ◌++◌, leb, ltb, length, take, drop, if◌then◌else◌}
 use Prim.Native.String.{String, [] as []ˢ, ◌∷◌ as ◌∷ˢ◌}
 use Prim.Native.Char.{code}
 
@@ -44,6 +44,10 @@ abbrev pub longest : ℕ
 longest = 72
 
 -- ---- the buffer lent
+
+-- the bytes w with x over those from a place on
+unfoldable pub placed : ℕ → List ℕ → List ℕ → List ℕ
+placed at x w = take at w ++ (x ++ drop (at + length x) w)
 
 -- how many bytes of a line are written over w: all, or none where w is shorter
 unfoldable pub written : List ℕ → List ℕ → ℕ
