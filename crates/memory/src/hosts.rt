@@ -195,13 +195,18 @@ pub fn end_retrains(m: &[u64]) -> u16
     crate::sending::replay(&m[0..SENDER]).retrains.0
 }
 
-// An end of the pair of this setup.
+// An end of the pair of this setup. One pair alone is made: a start that answers it, and another in its place where it is refused, takes twice as long.
+#[tactic(auto, unfolding(pairs::specs::Pairs::start_of))]
 fn started_end(link: Setup, which: usize) -> End
     requires { which ≤ 1 }
     ensures { result ≡ end_at (start_of link).pair which }
 {
-    let pair = Pair::start(link).unwrap_or(Pair::of(Setup::blank()));
-    pair.ends[which]
+    let link = if link.in_range() {
+        link
+    } else {
+        Setup::blank()
+    };
+    Pair::of(link).ends[which]
 }
 
 // Writes the end, and its setup behind it.

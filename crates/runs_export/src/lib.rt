@@ -30,10 +30,17 @@ pub struct Ran {
     pub retrains: [u32; 2],
 }
 
+// The run of this setup's pair at the start. One pair alone is made: a start that answers it, and another in its place where it is refused, takes longer.
+#[tactic(auto, unfolding(pairs::specs::Pairs::start_of))]
 fn fresh(link: Setup) -> Run
     ensures { result ≡ fresh_of link }
 {
-    Run::start(Pair::start(link).unwrap_or(Pair::of(Setup::blank())))
+    let link = if link.in_range() {
+        link
+    } else {
+        Setup::blank()
+    };
+    Run::start(Pair::of(link))
 }
 
 // ---- the packets taken
