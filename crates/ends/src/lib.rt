@@ -135,32 +135,33 @@ impl End {
         Ok(bare(End { sender, ..self }))
     }
 
-    // The first frame that applies, and the end after it.
+    // The first frame that applies, and the end after it: the end that was handed in is changed, since each new one would be made in a place of its own.
     #[tactic(auto, unfolding(crate::specs::Sends::send_of))]
-    pub fn send(self) -> Result<Outgoing, Refusal>
+    pub fn send(mut self) -> Result<Outgoing, Refusal>
         ensures { sent_of self result ≡ send_of self }
     {
-        let r = self.receiver;
-        if let Some(f) = r.reply.nak() {
-            let receiver = r.clear();
-            return Ok(with_frame(End { receiver, ..self }, f, 1));
+        if let Some(f) = self.receiver.reply.nak() {
+            self.receiver = self.receiver.clear();
+            return Ok(with_frame(self, f, 1));
         }
-        if let Some(f) = r.reply.ack() {
-            let receiver = r.clear();
-            return Ok(with_frame(End { receiver, ..self }, f, 2));
+        if let Some(f) = self.receiver.reply.ack() {
+            self.receiver = self.receiver.clear();
+            return Ok(with_frame(self, f, 2));
         }
-        if let Some(i) = r.first_marked() {
-            let receiver = r.told(i);
-            return Ok(with_frame(End { receiver, ..self }, r.update_frame(i), 3));
+        if let Some(i) = self.receiver.first_marked() {
+            let f = self.receiver.update_frame(i);
+            self.receiver = self.receiver.told(i);
+            return Ok(with_frame(self, f, 3));
         }
-        let s = self.sender;
-        if let Some(i) = s.replay.at {
-            let sender = s.replayed(i);
-            return Ok(with_frame(End { sender, ..self }, s.replay_frame(i), 4));
+        if let Some(i) = self.sender.replay.at {
+            let f = self.sender.replay_frame(i);
+            self.sender = self.sender.replayed(i);
+            return Ok(with_frame(self, f, 4));
         }
-        let (channel, place) = s.new_packet().ok_or(Refusal::NoFrame)?;
-        let sender = s.sent_new(channel, place);
-        Ok(with_frame(End { sender, ..self }, s.new_frame(channel, place), 5))
+        let (channel, place) = self.sender.new_packet().ok_or(Refusal::NoFrame)?;
+        let f = self.sender.new_frame(channel, place);
+        self.sender = self.sender.sent_new(channel, place);
+        Ok(with_frame(self, f, 5))
     }
 
     fn heard(self, f: Frame) -> Result<After<End>, Refusal>

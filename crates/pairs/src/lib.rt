@@ -109,22 +109,20 @@ impl Pair {
         self.lines[i]
     }
 
-    fn with_end(self, i: usize, end: End) -> Pair
+    fn with_end(mut self, i: usize, end: End) -> Pair
         requires { i ≤ 1 }
         ensures { result ≡ pair (set self.ends i end) self.lines }
     {
-        let mut r = self;
-        r.ends[i] = end;
-        r
+        self.ends[i] = end;
+        self
     }
 
-    fn with_line(self, i: usize, line: Line) -> Pair
+    fn with_line(mut self, i: usize, line: Line) -> Pair
         requires { i ≤ 1 }
         ensures { result ≡ pair self.ends (set self.lines i line) }
     {
-        let mut r = self;
-        r.lines[i] = line;
-        r
+        self.lines[i] = line;
+        self
     }
 
     // The pair after a step of end i alone.
