@@ -6,13 +6,13 @@
 mod files;
 
 pub use files::{MOST_BYTES, arg, read_path};
-use input::read_full;
+pub use input::read_full;
 use std::io;
 
 // The first twelve numbers of a line, 0 where it has fewer. The first says what is done.
 #[derive(Clone, Copy)]
 pub struct Case {
-    numbers: [u64; 12],
+    pub numbers: [u64; 12],
 }
 
 // The number with one more digit. Numbers of up to 16 digits are whole.
