@@ -1,5 +1,6 @@
 -- What a step of an end does to the part that it may change. The thin functions change just that part in place; that this is the step of the
--- whole end is proved in proofs/Steps, proofs/Submits and proofs/Takes. Assumes nothing.
+-- whole end is proved in proofs/Steps, proofs/Submits and proofs/Takes. No promise cites these: what holds the code are the functions' own
+-- promises. Arrive and Send may change the whole end, and Refresh the receiving half. Assumes nothing.
 use Rattle.std.specs.Prelude.{ℕ, leb, ltb, eqb, length, if◌then◌else◌, Some, None, Option}
 use Rattle.basics.specs.Choice.{first_of}
 use Rattle.basics.specs.Lists.{find}
